@@ -1,0 +1,12 @@
+pub mod Tests
+pub mod Words
+pub mod Numbers
+pub mod Primitives
+pub mod Values
+pub mod Image
+pub mod Refusals
+pub mod State
+pub mod Instructions
+pub mod Machine
+pub mod Call
+pub mod Sheet

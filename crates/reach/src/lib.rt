@@ -1,0 +1,1 @@
+// What holds of every state that the machine reaches, and the three demands of the unlimited machine's own steps.
