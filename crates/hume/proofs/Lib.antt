@@ -1,3 +1,6 @@
 pub mod Build
+pub mod Assembly
 pub mod Shown
 pub mod Sums
+pub mod Readings
+pub mod Refused

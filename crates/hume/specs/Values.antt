@@ -17,6 +17,7 @@ mutual
     nothing : Value
     atom : ℕ → ℕ → Value
     block : ℕ → Values → Value
+
   pub data Values : Type 0 where
     end : Values
     more : Value → Values → Values

@@ -84,4 +84,3 @@ exnHeader tag = header 6 tag
 
 abbrev pub noneHeader : ℕ
 noneHeader = header 7 0
-

@@ -1,1 +1,5 @@
 pub mod Machine
+pub mod Demand3
+pub mod Figures
+pub mod Kept
+pub mod Sees

@@ -33,11 +33,13 @@ fresh s = record { state = s; steps = 0; time = 0; peak = 0 }
 
 -- ---- the limits, and how a run under them ends
 
+-- The greatest time, depth and heap that an instruction may lead to.
 pub record Limits : Type 0 where
   pub time : ℕ
   pub stack : ℕ
   pub heap : ℕ
 
+-- The name of one of them.
 pub data Limit : Type 0 where
   Time Stack Heap : Limit
 
@@ -51,9 +53,11 @@ pub record Outcome (S E : Type 0) : Type 0 where
   pub ending : Ending E
   pub run : Run S
 
+-- It ended by itself at x.
 abbrev pub ended : {S E : Type 0} → E → Run S → Outcome S E
 ended e x = record { ending = own e; run = x }
 
+-- It was stopped by the limit b at x.
 abbrev pub stopped : {S E : Type 0} → Limit → Run S → Outcome S E
 stopped b x = record { ending = limit b; run = x }
 
@@ -63,7 +67,11 @@ pub record Larger (L K : Limits) : Type 0 where
   pub stack : L .stack ≤ K .stack
   pub heap : L .heap ≤ K .heap
 
--- A limit that a test says is broken, before any that comes later.
+-- n is above the limit l. A limit that is exactly met is not broken.
+abbrev pub above : ℕ → ℕ → Bool
+above l n = ltb l n
+
+-- The limit b if a test says so, before any that comes later.
 abbrev pub or-later : Bool → Limit → Option Limit → Option Limit
 or-later true b later = some b
 or-later false b later = later
@@ -71,10 +79,11 @@ or-later false b later = later
 module _ {S E : Type 0} (M : Machine S E) where
   -- ---- the machine with no limits
 
-  -- An instruction that takes the time t and leads to s is counted, its time is added, and the depth after it is looked at.
+  -- An instruction of the time t that leads to s: it is counted, its time is added, the depth after it is looked at.
   abbrev pub charge : Run S → ℕ → S → Run S
   charge r t s = record { state = s; steps = suc (r .steps); time = r .time + t; peak = max (r .peak) (M .depth s) }
 
+  -- What an act makes of a run: none if it is an ending.
   abbrev pub taken : Run S → Act S E → Option (Run S)
   taken r (ends e) = none
   taken r (goes t s) = some (charge r t s)
@@ -93,12 +102,13 @@ module _ {S E : Type 0} (M : Machine S E) where
   deeper zero d s = d
   deeper (suc n) d s = elim (M .act s) [ ends e ↦ d | goes t u ↦ deeper n (max d (M .depth u)) u ]
 
+  -- The same from a run: its figures are not looked at.
   abbrev pub deepest : ℕ → ℕ → Run S → ℕ
   deepest n d r = deeper n d (r .state)
 
   -- ---- against limits
 
-  -- The run x, to which an instruction led, is inside all three limits. A limit that is exactly met is not broken.
+  -- The run x, to which an instruction led, is inside all three limits.
   pub record Inside (L : Limits) (x : Run S) : Type 0 where
     pub time : x .time ≤ L .time
     pub stack : M .depth (x .state) ≤ L .stack
@@ -108,7 +118,7 @@ module _ {S E : Type 0} (M : Machine S E) where
   abbrev pub AllInside : Limits → ℕ → Run S → Type 0
   AllInside L n r = (k : ℕ) (x : Run S) → k < n → after (suc k) r ≡ some x → Inside L x
 
-  -- "the limit that the offending instruction breaks (time, stack, heap)": the first, in that order, that x is above.
+  -- "the limit that the first offending instruction breaks (time, stack, heap)": the first, so ordered, that x exceeds.
   abbrev pub Breaks : Limits → Limit → Run S → Type 0
   Breaks L Time x = L .time < x .time
   Breaks L Stack x = (x .time ≤ L .time) × (L .stack < M .depth (x .state))
@@ -119,8 +129,10 @@ module _ {S E : Type 0} (M : Machine S E) where
   -- The first limit that x is above, if any.
   abbrev pub broken : Limits → Run S → Option Limit
   broken L x =
-      or-later (ltb (L .time) (x .time)) Time
-      (or-later (ltb (L .stack) (M .depth (x .state))) Stack (or-later (ltb (L .heap) (M .heap (x .state))) Heap none))
+      let d = M .depth (x .state) in
+      let h = M .heap (x .state) in
+      or-later (above (L .time) (x .time)) Time
+      (or-later (above (L .stack) d) Stack (or-later (above (L .heap) h) Heap none))
 
   -- At most n turns: each ends, or stops before an instruction that breaks a limit, or executes one.
   unfoldable pub turns : ℕ → Limits → Run S → Outcome S E

@@ -1,0 +1,9 @@
+pub mod Steps
+pub mod Tally
+pub mod Depth
+pub mod Promise
+pub mod Kept
+pub mod Demand3
+pub mod Turns
+pub mod Sees
+pub mod Example
