@@ -1,0 +1,4 @@
+pub mod Ints
+pub mod Floats
+pub mod Rounding
+pub mod Cutting

@@ -1,0 +1,3 @@
+pub mod Cuts
+pub mod Rounded
+pub mod Signs
