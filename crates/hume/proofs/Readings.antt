@@ -4,17 +4,21 @@ use mathlib.Core.List.{List, [], _∷_, _++_, map}
 use Prim.Native.Nat.{ℕ, _+_, _*_}
 use lib.ListN.{replicate}
 use Rattle.hume.specs.Call.{Given}
-use Rattle.hume.proofs.Build.{Set, Sum, sum, image, entered, plain, limits, given, capped}
+use Rattle.hume.proofs.Build.{Set, Sum, sum, image, entered, plain, limits, given}
 use Rattle.hume.proofs.Shown.{counted, seen}
 use Rattle.hume.proofs.Assembly.{mkBool, mkInt, mkFloat, mkNone, mkTuple, mkCon, push, pop, slide, copy, copyArg, createFrame, pushVar, makeVar, goto, ifTrue, call, returns, callPrim1, callPrim2, raises, startMatches, matchRule, matchedRule, matchNone, matchAvailable, matchBool, matchInt, matchFloat, matchTuple, matchCon, matchExn, unpack, reorder, copyInput, consume, maybeConsume, checkOutputs, write, schedule}
 
+-- time enough for any of these, and little enough that a wrong machine, which may go round, ends soon
+abbrev run : List ℕ → List ℕ → List ℕ → Given
+run m wires order = given m (limits 2000 4096 16384) wires order
+
 -- an image of one ruleset with one rule at 0, and no wires
 abbrev code : List (List ℕ) → Given
-code c = capped (plain c) [] (0 ∷ [])
+code c = run (plain c) [] (0 ∷ [])
 
 -- rulesets 0 at 0 and 1 at `e`, one rule at 0 each; a handler or 255
 abbrev code2 : ℕ → ℕ → List (List ℕ) → Given
-code2 handler e c = capped (image 0 0 handler (entered 0 ∷ entered e ∷ []) c) [] (0 ∷ 0 ∷ [])
+code2 handler e c = run (image 0 0 handler (entered 0 ∷ entered e ∷ []) c) [] (0 ∷ 0 ∷ [])
 
 abbrev rules : ℕ → List ℕ → Set
 rules e l = record { entry = e; rules = l }
@@ -94,7 +98,7 @@ control-rows =
 -- a function of two rules in ruleset 1, called with the Ints 3 and 4, of which 4 is argument 0
 abbrev called : List (List ℕ) → ℕ → List ℕ → Given
 called body e l =
-    capped (image 0 0 255 (entered 0 ∷ rules e l ∷ []) (mkInt 3 ∷ mkInt 4 ∷ call 1 ∷ schedule ∷ body)) [] (0 ∷ 0 ∷ 1 ∷ [])
+    run (image 0 0 255 (entered 0 ∷ rules e l ∷ []) (mkInt 3 ∷ mkInt 4 ∷ call 1 ∷ schedule ∷ body)) [] (0 ∷ 0 ∷ 1 ∷ [])
 
 unfoldable pub match-rows : List Sum
 match-rows =
@@ -136,14 +140,14 @@ match-rows =
 
 -- two rules; inputs 2, of which the second is empty
 abbrev boxed : List (List ℕ) → List ℕ → List ℕ → Given
-boxed c l order = capped (image 2 0 255 (rules 0 l ∷ []) c) (intWire 9 ++ emptyWire) order
+boxed c l order = run (image 2 0 255 (rules 0 l ∷ []) c) (intWire 9 ++ emptyWire) order
 
 -- one output
 abbrev output : List ℕ → List (List ℕ) → Given
-output wire c = capped (image 0 1 255 (entered 0 ∷ []) c) wire (0 ∷ [])
+output wire c = run (image 0 1 255 (entered 0 ∷ []) c) wire (0 ∷ [])
 
 abbrev outputs : List ℕ → List (List ℕ) → Given
-outputs wires c = capped (image 0 2 255 (entered 0 ∷ []) c) wires (0 ∷ [])
+outputs wires c = run (image 0 2 255 (entered 0 ∷ []) c) wires (0 ∷ [])
 
 -- nested Tuples of one field around the Int 7: n of them spread to 2 * n + 2 words
 abbrev nested : ℕ → List (List ℕ)
