@@ -7,7 +7,7 @@ use Rattle.hume.specs.Tests.{pick, every, all, same}
 use Rattle.hume.specs.Words.{bits, raw, isNull, isRef, isNone, isValue}
 use Rattle.hume.specs.Numbers.{canonical, addInt, subInt, mulInt, divInt, modInt, ltInt, leInt}
 use Rattle.hume.specs.Numbers.{addFloat, subFloat, mulFloat, divFloat, eqFloat, ltFloat, leFloat, toFloat, toInt}
-use Rattle.hume.specs.Primitives.{divided, converted, isTrue, primitives, prim1, prim2}
+use Rattle.hume.specs.Primitives.{divided, converted, isTrue, oneOperand, twoOperands, prim1, prim2}
 use Rattle.hume.specs.Values.{atomOk, blockOk, good, prefix, row, oneValue, placed, fieldsBy, bodyBy, wordBy, spreadTo, spread, wireCount, wireWords, isEmpty, setWire, wireOk}
 use Rattle.hume.specs.Image.{byte, half, full, rulesetAt, codeAt, totalLength, version, program, orderAt}
 use Rattle.hume.specs.Refusals.{fieldOk, format, opcodeOk, formatOf, lengthOk, versionOk, countsOk, rulesetOk, instructionOk, lastOk, codeOk, unless, imageRefusal, cardOk, limitsOk, wiresOk, among, permutation, orderOf, orderOk}
@@ -43,7 +43,7 @@ figured r =
     r .refusal ∷ f .ending ∷ f .detail ∷ f .pc ∷ f .steps ∷ f .time ∷ f .peak ∷ f .depth ∷ f .heap ∷ []
 
 unfoldable pub seen : Given → List ℕ
-unfolding shown limited pick every all same bits raw isNull isRef isNone isValue canonical addInt subInt mulInt divInt modInt ltInt leInt addFloat subFloat mulFloat divFloat eqFloat ltFloat leFloat toFloat toInt divided converted isTrue primitives prim1 prim2 atomOk blockOk good prefix row oneValue placed fieldsBy bodyBy wordBy spreadTo spread wireCount wireWords isEmpty setWire wireOk byte half full rulesetAt codeAt totalLength version program orderAt fieldOk format opcodeOk formatOf lengthOk versionOk countsOk rulesetOk instructionOk lastOk codeOk unless imageRefusal cardOk limitsOk wiresOk among permutation orderOf orderOk locals lp values below downward without numberAt isCell second ruleAt ruleCount need fails raise MkBool MkInt MkFloat MkNone mkBlock MkTuple MkCon Push Pop Slide Copy argument hasArgument CopyArg CreateFrame hasLocal PushVar MakeVar Goto If Call saved frameOk Return yielded operand operandOk CallPrim1 CallPrim2 Raise StartMatches MatchRule MatchedRule MatchNone MatchAvailable matches cellIs MatchBool MatchInt MatchFloat MatchTuple MatchCon MatchExn isTupleOrConstr Unpack moveLast reordered Reorder CopyInput Consume MaybeConsume outputAt holdsUp checked CheckOutputs Write Schedule instructions instruction deed charged price acts machine start endingOf detailOf figuresOf area outcome ran refused lentRefusal firstOf refusal answerBy answer
+unfolding shown limited pick every all same bits raw isNull isRef isNone isValue canonical addInt subInt mulInt divInt modInt ltInt leInt addFloat subFloat mulFloat divFloat eqFloat ltFloat leFloat toFloat toInt divided converted isTrue oneOperand twoOperands prim1 prim2 atomOk blockOk good prefix row oneValue placed fieldsBy bodyBy wordBy spreadTo spread wireCount wireWords isEmpty setWire wireOk byte half full rulesetAt codeAt totalLength version program orderAt fieldOk format opcodeOk formatOf lengthOk versionOk countsOk rulesetOk instructionOk lastOk codeOk unless imageRefusal cardOk limitsOk wiresOk among permutation orderOf orderOk locals lp values below downward without numberAt isCell second ruleAt ruleCount need fails raise MkBool MkInt MkFloat MkNone mkBlock MkTuple MkCon Push Pop Slide Copy argument hasArgument CopyArg CreateFrame hasLocal PushVar MakeVar Goto If Call saved frameOk Return yielded operand operandOk CallPrim1 CallPrim2 Raise StartMatches MatchRule MatchedRule MatchNone MatchAvailable matches cellIs MatchBool MatchInt MatchFloat MatchTuple MatchCon MatchExn isTupleOrConstr Unpack moveLast reordered Reorder CopyInput Consume MaybeConsume outputAt holdsUp checked CheckOutputs Write Schedule instructions instruction deed charged price acts machine start endingOf detailOf figuresOf area outcome ran refused lentRefusal firstOf refusal answerBy answer
 seen g = shown (answer g)
 
 unfoldable pub counted : Given → List ℕ

@@ -1,8 +1,8 @@
 -- Document 01, "Primitives": the 25 primitives and their cycles (001, Table 5), in one table.
 use mathlib.Core.Bool.{Bool, true, false, not, _&&_, _||_}
-use mathlib.Core.List.{List, [], _∷_}
+use mathlib.Core.List.{List, [], _∷_, _++_}
 use mathlib.Core.Option.{Option, none, some}
-use Prim.Native.Nat.{ℕ, _+_, _-_}
+use Prim.Native.Nat.{ℕ, _-_}
 use lib.Dec.{eqb}
 use lib.ListN.{getD}
 use Rattle.hume.specs.Tests.{pick}
@@ -49,14 +49,19 @@ converted (some n) = value n
 unfoldable pub isTrue : ℕ → Bool
 isTrue x = eqb x 1
 
-unfoldable pub primitives : List Primitive
-primitives =
-    -- "One operand: 1 not 118, 2 toFloat.i 699, 3 toInt.f 2973."
+-- "One operand: 1 not 118, 2 toFloat.i 699, 3 toInt.f 2973."
+unfoldable pub oneOperand : List Primitive
+oneOperand =
     bools 118 (λ x y. truth (not (isTrue x)))
     ∷ ints 699 floatHeader (λ x y. value (toFloat x))
     ∷ floats 2973 intHeader (λ x y. converted (toInt x))
-    -- "Two: 1 ==.i 125, 2 !=.i 243, 3 >=.i 122, 4 >.i 124, 5 <=.i 122, 6 <.i 124,"
-    ∷ ints 125 boolHeader (λ x y. value (truth (eqb x y)))
+    ∷ []
+
+-- "Two: .."
+unfoldable pub twoOperands : List Primitive
+twoOperands =
+    -- "1 ==.i 125, 2 !=.i 243, 3 >=.i 122, 4 >.i 124, 5 <=.i 122, 6 <.i 124,"
+    ints 125 boolHeader (λ x y. value (truth (eqb x y)))
     ∷ ints 243 boolHeader (λ x y. value (truth (not (eqb x y))))
     ∷ ints 122 boolHeader (λ x y. value (truth (leInt y x)))
     ∷ ints 124 boolHeader (λ x y. value (truth (ltInt y x)))
@@ -84,13 +89,18 @@ primitives =
     ∷ floats 959 floatHeader (λ x y. value (divFloat x y))
     ∷ []
 
+-- "These are kept as one table of costs by primitive number."
+unfoldable pub primitives : List Primitive
+primitives = oneOperand ++ twoOperands
+
 -- No image that is accepted names another number.
 abbrev pub noPrimitive : Primitive
 noPrimitive = bools 0 (λ x y. 0)
 
--- by number, 1..3 of one operand and 1..22 of two
+-- by number, 1..3
 unfoldable pub prim1 : ℕ → Primitive
-prim1 a = getD primitives (a - 1) noPrimitive
+prim1 a = getD oneOperand (a - 1) noPrimitive
 
+-- by number, 1..22
 unfoldable pub prim2 : ℕ → Primitive
-prim2 a = getD primitives (a + 2) noPrimitive
+prim2 a = getD twoOperands (a - 1) noPrimitive

@@ -1,3 +1,9 @@
 pub mod Tests
 pub mod Words
 pub mod Accepted
+pub mod Each
+pub mod Values
+pub mod Small
+pub mod Objects
+pub mod Wires
+pub mod Deeds

@@ -1,2 +1,3 @@
 pub mod Whole
 pub mod Accepted
+pub mod Sizes

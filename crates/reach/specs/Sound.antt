@@ -8,6 +8,7 @@ use Rattle.hume.specs.Words.{Word, null, none, ref, ret, rules, static, link}
 use Rattle.hume.specs.Image.{Program}
 use Rattle.hume.specs.State.{Regs, State, sp, hp, locals}
 use Rattle.laws.specs.Whole.{Whole}
+use Rattle.laws.specs.Sizes.{Small}
 use Rattle.laws.specs.Accepted.{OrderFits, WiresFit, Words32}
 
 -- ---- of the unlimited machine
@@ -42,11 +43,6 @@ pub record Sound (P : Program) (s : State) : Type 0 where
   pub wires : WiresFit P (s .wires)
 
 -- ---- of a run within the caps: 4096 stack words and 16384 heap words
-
--- a word that is read back from its 32 bits
-pub record Small (w : Word) : Type 0 where
-  pub type : w .type < 16
-  pub payload : w .payload < 2 ^ 28
 
 pub record Ranged (r : Run State) : Type 0 where
   pub sp : sp (r .state) ≤ 4096

@@ -1,0 +1,4 @@
+pub mod Charges
+pub mod Turning
+pub mod Areas
+pub mod Moving

@@ -1,0 +1,15 @@
+// The machine of document 01 on lent slices.
+mod moves;
+mod regs;
+
+// "an ending carries its own detail inside the returned record"
+pub enum Ending {
+    Finished,
+    Blocked(u32),
+    Fault(u32),
+    NoRule,
+    Unhandled(u32),
+    Time,
+    Stack,
+    Heap,
+}
