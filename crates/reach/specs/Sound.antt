@@ -1,12 +1,12 @@
 -- What holds of every state that the machine reaches.
 use mathlib.Core.Path.{_≡_}
 use mathlib.Core.List.{List, _∷_, _++_}
-use Prim.Native.Nat.{ℕ, suc, _+_, _-_, _*_, _^_, _≤_, _<_}
+use Prim.Native.Nat.{ℕ, suc, _+_, _≤_, _<_}
 use lib.ListN.{length, getD}
 use Rattle.limits.specs.Machine.{Run}
 use Rattle.hume.specs.Words.{Word, null, none, ref, ret, rules, static, link}
 use Rattle.hume.specs.Image.{Program}
-use Rattle.hume.specs.State.{Regs, State, sp, hp, locals}
+use Rattle.hume.specs.State.{State, sp, hp, locals}
 use Rattle.laws.specs.Whole.{Whole}
 use Rattle.laws.specs.Sizes.{Small}
 use Rattle.laws.specs.Accepted.{OrderFits, WiresFit, Words32}
@@ -22,18 +22,19 @@ pub data Plain (P : Program) (hs : List Word) (w : Word) : Type 0 where
   isRules : (r k : ℕ) → w ≡ rules r k → r < P .rulesets → k ≤ P .count r → Plain P hs w
   isStatic : (p : ℕ) → w ≡ static p → Plain P hs w
 
--- each of the words
-pub record Plains (P : Program) (hs ws : List Word) : Type 0 where
-  pub each : (i : ℕ) → Plain P hs (getD ws i null)
+-- F holds of each of the words, and so of null, which stands past the last.
+pub record Throughout (F : Word → Type 0) (ws : List Word) : Type 0 where
+  pub each : (i : ℕ) → F (getD ws i null)
 
--- The stack in frames, from the top one down: a frame's words from fp up are locals and values, its link is the word at fp-1, and
--- below that is the stack as it was when the frame was made, with 3 values at least.
+-- The stack in frames, from the top one down: a frame's words from fp up are locals and values, its link is the word at
+-- fp-1, and below that is the stack as it was when the frame was made, with 3 values at least.
 pub data Frames (P : Program) (hs : List Word) : List Word → ℕ → Type 0 where
-  bottom : (ws : List Word) (fp : ℕ) → fp ≡ 0 → Plains P hs ws → Frames P hs ws fp
+  bottom : (ws : List Word) (fp : ℕ) → fp ≡ 0 → Throughout (Plain P hs) ws → Frames P hs ws fp
   frame : (ws : List Word) (fp : ℕ) (lower upper : List Word) (prev n : ℕ) → ws ≡ lower ++ link prev n ∷ upper
-      → fp ≡ suc (length lower) → n < 256 → n ≤ length upper → Plains P hs upper
+      → fp ≡ suc (length lower) → n < 256 → n ≤ length upper → Throughout (Plain P hs) upper
       → prev + locals prev lower + 3 ≤ length lower → Frames P hs lower prev → Frames P hs ws fp
 
+-- A state that an accepted program may reach.
 pub record Sound (P : Program) (s : State) : Type 0 where
   pub pc : s .regs .pc < P .size
   pub rs : s .regs .rs < P .rulesets
@@ -44,6 +45,7 @@ pub record Sound (P : Program) (s : State) : Type 0 where
 
 -- ---- of a run within the caps: 4096 stack words and 16384 heap words
 
+-- A run all of whose words and registers fit their 32 bits.
 pub record Ranged (r : Run State) : Type 0 where
   pub sp : sp (r .state) ≤ 4096
   pub hp : hp (r .state) ≤ 16384
