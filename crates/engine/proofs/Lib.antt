@@ -2,3 +2,6 @@ pub mod Charges
 pub mod Turning
 pub mod Areas
 pub mod Moving
+pub mod Going
+pub mod Standing
+pub mod Wiping

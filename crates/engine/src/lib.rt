@@ -1,6 +1,7 @@
 // The machine of document 01 on lent slices.
 mod moves;
 mod regs;
+mod whole;
 
 // "an ending carries its own detail inside the returned record"
 pub enum Ending {
