@@ -5,3 +5,4 @@ pub mod Moving
 pub mod Going
 pub mod Standing
 pub mod Wiping
+pub mod Opcodes
