@@ -1,6 +1,8 @@
 // The machine of document 01 on lent slices.
+mod control;
 mod moves;
 mod regs;
+mod words;
 
 // "an ending carries its own detail inside the returned record"
 pub enum Ending {
