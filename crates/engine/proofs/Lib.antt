@@ -1,8 +1,11 @@
 pub mod Charges
 pub mod Turning
 pub mod Areas
+pub mod WordKinds
+pub mod Stores
 pub mod Moving
 pub mod Going
 pub mod Standing
 pub mod Wiping
 pub mod Opcodes
+pub mod Steering

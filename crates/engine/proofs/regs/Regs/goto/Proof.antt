@@ -1,0 +1,23 @@
+use mathlib.Core.Path.{refl}
+use Rattle.engine.proofs.Turning.{settled}
+use Rattle.engine.proofs.Steering.{goto-leads}
+use borrow.Author.Needs.{needs}
+use Rattle.engine.proofs.regs.Regs.goto.Statement.{statement}
+use Rattle.engine.proofs.regs.Regs.goto.Tie as tie
+use Rattle.engine.proofs.regs.Regs.goto.Reads as reads
+use Rattle.engine.proofs.regs.Regs.goto.Lts as lts
+use Rattle.engine.proofs.regs.Regs.charge_time.Reads as charge-time-reads
+
+-- src/control.rt:57:9
+charge-time-requires : tie.Need-charge-time-requires
+charge-time-requires c κs = search needs
+
+-- src/control.rt:51:5
+returns : tie.Need-returns
+returns c =
+    let start = c .before in
+    let charge-time = c .charge-time in
+    λ st he wi or. record { each = λ ws hs h m n. settled (goto-leads (start .pre) h wi or _ _) _ (charge-time .ensures) (λ a b. record { stack = h .stack; heap = h .heap; wires = refl; order = refl }) }
+
+pub goto-spec : {M : Type 1} → statement M
+goto-spec = tie.close (tie.spec charge-time-requires returns)
