@@ -1,4 +1,5 @@
 // The machine of document 01 on lent slices.
+mod image;
 mod moves;
 mod regs;
 
