@@ -3,3 +3,4 @@ pub mod Turning
 pub mod Areas
 pub mod Moving
 pub mod Imaging
+pub mod Trying

@@ -1,7 +1,9 @@
 // The machine of document 01 on lent slices.
 mod image;
+mod matching;
 mod moves;
 mod regs;
+mod words;
 
 // "an ending carries its own detail inside the returned record"
 pub enum Ending {
