@@ -1,13 +1,13 @@
 -- What matching leads to.
 use mathlib.Core.Path.{_≡_, refl, sym, ap, _∙_, subst}
 use mathlib.Core.Bool.{Bool, true, false, _&&_, _||_, not}
-use mathlib.Core.List.{List, [], _∷_, _++_}
+use mathlib.Core.List.{List, [], _∷_, _++_, append-nil, append-assoc}
 use Prim.Native.Nat.{ℕ, zero, suc, _+_, _-_, _*_, _/_, _%_, _^_, _≤_, _<_}
 use native.Mathlib.Decide.{ℕ-discrete}
 use native.Mathlib.Omega.{arith}
 use lib.Dec.{T, leb, ltb, eqb, leb→le, le→leb, ltb→lt, lt→ltb, eqb→eq}
-use lib.ListN.{length, getD, take, drop, set, length-append}
-use lib.Seq.{length-take-le}
+use lib.ListN.{length, getD, take, drop, set, length-append, length-drop, take-append-drop}
+use lib.Seq.{length-take-le, take-suc, drop-cons, set-at, getD-drop, getD-append-add}
 use borrow.Author.Tests.{eq-eqb, ne-eqb, eqb-true, eqb-false, lt-ltb, le-ltb}
 use Rattle.limits.specs.Machine.{Act, ends, goes}
 use Rattle.hume.specs.Tests.{pick}
@@ -18,7 +18,7 @@ use Rattle.hume.specs.Values.{isEmpty, wireCount}
 use Rattle.hume.specs.Refusals.{fieldOk, formatOf, format}
 use Rattle.hume.specs.State.{State, End, fault, noRule, Deed, need, at, next, leaving, turns, stacks, fails, locals, lp, numberAt, isCell, second, ruleAt, ruleCount}
 use Rattle.hume.specs.Instructions.{StartMatches, MatchRule, MatchedRule, MatchNone, MatchAvailable, moved, argument, hasArgument, matches, cellIs}
-use Rattle.hume.specs.Instructions.{MatchBool, MatchInt, MatchFloat, MatchTuple, MatchCon, MatchExn, instructions}
+use Rattle.hume.specs.Instructions.{MatchBool, MatchInt, MatchFloat, MatchTuple, MatchCon, MatchExn, Reorder, reordered, moveLast, instructions}
 use Rattle.hume.specs.Machine.{instruction, charged}
 use Rattle.laws.specs.Sizes.{Small}
 use Rattle.laws.proofs.Tests.{to-true, to-false, of-true, Tested, passes, misses, tested, and-left, and-right, pick-true, pick-false}
@@ -413,3 +413,99 @@ module _ {P : Program} {s : State} {d : Deed} {t : Attempt} {lim : Limits} {r : 
       → Turned lim r b (charged cost s d) q b'
   attempt-goes (faulty n p) k e = absurd (n k)
   attempt-goes (tries z p) k e = turned-as cost s p e
+
+-- ---- a word moved last
+
+module _ (l : List ℕ) (i : ℕ) where
+  -- the words before k once those from i + 1 to k have moved down one
+  abbrev front : ℕ → List ℕ
+  front k = take i l ++ take (k - i) (drop (i + 1) l)
+
+  abbrev pub shifted : ℕ → List ℕ
+  shifted k = front k ++ drop k l
+
+  pub shift-none : l ≡ shifted i
+  shift-none = let z : i - i ≡ 0 = omega arith in rw (z, append-nil) (sym (take-append-drop i l))
+
+  module _ (k : ℕ) (h : i ≤ k) (m : k < length l) where
+    front-length : length (front k) ≡ k
+    front-length =
+        let a : length (take i l) ≡ i = length-take-le i l (omega arith) in
+        let b : length (drop (i + 1) l) ≡ length l - (i + 1) = length-drop (i + 1) l in
+        let c : length (take (k - i) (drop (i + 1) l)) ≡ k - i = length-take-le (k - i) (drop (i + 1) l) (omega arith) in
+        length-append (take i l) (take (k - i) (drop (i + 1) l)) ∙ omega arith
+
+    pub shift-length : length (shifted k) ≡ length l
+    shift-length =
+        let a : length (front k) ≡ k = front-length in
+        let b : length (drop k l) ≡ length l - k = length-drop k l in
+        length-append (front k) (drop k l) ∙ omega arith
+
+    shift-set : (v : ℕ) → set (shifted k) k v ≡ front k ++ v ∷ drop (suc k) l
+    shift-set v =
+        ap (λ (x : List ℕ). set (front k ++ x) k v) (drop-cons l k 0 m)
+        ∙ set-at (front k) (getD l k 0) (drop (suc k) l) v k front-length
+
+    shift-get : getD (shifted k) (k + 1) 0 ≡ getD l (k + 1) 0
+    shift-get =
+        ap (λ (x : ℕ). getD (shifted k) (x + 1) 0) (sym front-length)
+        ∙ getD-append-add (front k) (drop k l) 1 0
+        ∙ getD-drop k l 1 0
+
+    pub shift-more : k + 1 < length l → set (shifted k) k (getD (shifted k) (k + 1) 0) ≡ shifted (k + 1)
+    shift-more q =
+        let d : List ℕ = drop (i + 1) l in
+        let b : length d ≡ length l - (i + 1) = length-drop (i + 1) l in
+        let y : suc (k - i) ≡ k + 1 - i = omega arith in
+        let z : suc k ≡ k + 1 = omega arith in
+        let u : i + 1 + (k - i) ≡ k + 1 = omega arith in
+        let e : getD d (k - i) 0 ≡ getD l (k + 1) 0 =
+        getD-drop (i + 1) l (k - i) 0 ∙ ap (λ (x : ℕ). getD l x 0) u in
+        let t : take (k + 1 - i) d ≡ take (k - i) d ++ getD l (k + 1) 0 ∷ [] =
+        ap (λ (x : ℕ). take x d) (sym y)
+        ∙ take-suc d (k - i) 0 (omega arith)
+        ∙ ap (λ (x : ℕ). take (k - i) d ++ x ∷ []) e in
+        shift-set (getD (shifted k) (k + 1) 0)
+        ∙ ap (λ (x : ℕ). front k ++ x ∷ drop (suc k) l) shift-get
+        ∙ ap (λ (x : ℕ). front k ++ getD l (k + 1) 0 ∷ drop x l) z
+        ∙ sym
+        (ap (λ (x : List ℕ). (take i l ++ x) ++ drop (k + 1) l) t
+        ∙ simp append-assoc)
+
+    pub shift-last : (j : ℕ) → j ≡ k + 1 → set (shifted k) k (getD l i 0) ≡ moveLast l i j
+    unfolding moveLast
+    shift-last j q =
+        let z : suc k ≡ j = omega arith in
+        let y : k - i ≡ j - (i + 1) = omega arith in
+        shift-set (getD l i 0)
+        ∙ ap (λ (x : ℕ). front k ++ getD l i 0 ∷ drop x l) z
+        ∙ append-assoc (take i l) (take (k - i) (drop (i + 1) l)) (getD l i 0 ∷ drop j l)
+        ∙ ap (λ (x : ℕ). take i l ++ (take x (drop (i + 1) l) ++ getD l i 0 ∷ drop j l)) y
+
+-- "34 Reorder"
+module _ {r : Regs} {st he : List ℕ} {ws hs : List Word} (h : Holds r st he ws hs) (wi or : List ℕ) (P : Program) where
+  abbrev u : State
+  u = core r ws hs wi or false
+
+  pub reorder-leads : (cost : ℕ)
+      → Leads cost (priced cost (Reorder P) u) (routed r (r .pc + 1) (r .rp) (r .mp) (r .inp)) ws hs wi (reordered P u)
+  unfolding Reorder charged
+  reorder-leads cost =
+      let z : cost + 0 ≡ cost = omega arith in
+      record { same = rw (append-nil, z); sp = h .sp; hp = h .hp; lp = h .lp }
+
+  pub reordered-moves : (from n : ℕ) {x : List ℕ} → from ≡ orderAt P (r .rs) → n ≡ P .count (r .rs) → r .rp < n
+      → x ≡ moveLast or (from + r .rp) (from + n) → x ≡ reordered P u
+  unfolding reordered ruleCount
+  reordered-moves from n e q k p =
+      p
+      ∙ ap (λ (y : ℕ). moveLast or (y + r .rp) (y + n)) e
+      ∙ ap (λ (y : ℕ). moveLast or (orderAt P (r .rs) + r .rp) (orderAt P (r .rs) + y)) q
+      ∙ sym (pick-true (ltb (r .rp) (P .count (r .rs))) _ _ (lt→ltb _ _ (rw q at k)))
+
+  pub reordered-stays : P .count (r .rs) ≤ r .rp → or ≡ reordered P u
+  unfolding reordered ruleCount
+  reordered-stays k =
+      sym
+      (pick-false (ltb (r .rp) (P .count (r .rs))) _ _
+      (λ t. let l : r .rp < P .count (r .rs) = ltb→lt _ _ t in absurd (omega arith)))

@@ -66,6 +66,21 @@ fn cell_matches(op: usize, a: usize, b: u32, c: u32, w: u32, heap: &[u32]) -> bo
     heap[p + 1] == wanted(op, a, c)
 }
 
+// The number at i goes to the place before j, those between move down one.
+fn move_last(order: &mut [u32], i: usize, j: usize)
+    requires { ⌜ (i < j) × (j ≤ length (now order)) ⌝ }
+    ensures { λ _. ⌜ now (order .exit) ≡ moveLast (now (order .entry)) i j ⌝ }
+{
+    let first = order[i];
+    let mut k = i;
+    while k + 1 < j {
+        let w = order[k + 1];
+        order[k] = w;
+        k += 1;
+    }
+    order[k] = first;
+}
+
 impl Regs {
     // "22 StartMatches: to the current ruleset's rule at order 0"
     pub(crate) fn start_matches(self, lim: Limits, cost: usize, image: &[u8], at: &[usize], orders: &[usize], order: &[u32]) -> Turn
@@ -238,5 +253,28 @@ impl Regs {
             return self.halt(Ending::Fault(t.fault));
         }
         self.conclude(lim, cost, t.hit, t.mp, t.inp, image, at, orders, order)
+    }
+
+    // "34 Reorder: the rule at order position rp goes last, those after it move down one; with rp = count, nothing"
+    pub(crate) fn reorder(self, lim: Limits, cost: usize, image: &[u8], at: &[usize], orders: &[usize], order: &mut [u32]) -> Turn
+        requires { ⌜ Fit lim self ⌝ }
+        requires { ⌜ Imaged (now image) ⌝ }
+        requires { ⌜ Located (now image) (now at) (now orders) ⌝ }
+        requires { ⌜ OrderFits (program (now image)) (now order) ⌝ }
+        requires { ⌜ self .rs < program (now image) .rulesets ⌝ }
+        ensures { λ r. ⌜ ((st he wi : List ℕ) → Meets lim self (buffers st he wi (now (order .entry))) (priced cost (Reorder (program (now (image .entry))))) r (buffers st he wi (now (order .exit)))) ⌝ }
+    {
+        let rs = self.rs;
+        let mut next = self;
+        next.pc = self.pc + 1;
+        let turn = self.charge_time(lim, cost, next);
+        if turn.go {
+            let count = count_of(image, at, rs);
+            if self.rp < count {
+                let from = orders[rs];
+                move_last(order, from + self.rp, from + count);
+            }
+        }
+        turn
     }
 }
