@@ -9,3 +9,5 @@ pub mod Standing
 pub mod Wiping
 pub mod Opcodes
 pub mod Steering
+pub mod Imaging
+pub mod Trying

@@ -2,3 +2,5 @@ pub mod Turns
 pub mod Fits
 pub mod Running
 pub mod Frames
+pub mod Tables
+pub mod Attempts

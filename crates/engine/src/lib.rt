@@ -1,5 +1,7 @@
 // The machine of document 01 on lent slices.
 mod control;
+mod image;
+mod matching;
 mod moves;
 mod regs;
 mod whole;

@@ -7,3 +7,4 @@ pub mod Small
 pub mod Objects
 pub mod Wires
 pub mod Deeds
+pub mod Permutation
