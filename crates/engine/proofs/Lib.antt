@@ -5,3 +5,4 @@ pub mod WordKinds
 pub mod Stores
 pub mod Moving
 pub mod Steering
+pub mod Backing
