@@ -11,3 +11,4 @@ pub mod Opcodes
 pub mod Steering
 pub mod Imaging
 pub mod Trying
+pub mod Backing

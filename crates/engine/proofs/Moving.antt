@@ -1,15 +1,15 @@
 -- What the instructions that move words on the stack lead to.
 use mathlib.Core.Path.{_≡_, refl, sym, ap, _∙_, subst}
-use mathlib.Core.Bool.{Bool, true, false, _||_}
+use mathlib.Core.Bool.{true, false, _||_}
 use mathlib.Core.List.{List, [], _∷_, _++_}
 use Prim.Native.Nat.{ℕ, _+_, _*_, _-_, _≤_, _<_}
 use native.Mathlib.Omega.{arith}
-use lib.Dec.{T, leb, ltb, leb→le, le→leb, ltb→lt, lt→ltb}
-use lib.ListN.{length, getD, set, take, replicate, length-append, length-set, length-replicate}
+use lib.Dec.{T, leb, leb→le, le→leb, ltb→lt, lt→ltb}
+use lib.ListN.{length, getD, set, replicate, length-append, length-set, length-replicate}
 use lib.Seq.{sets, length-take-le, append-snoc}
-use Rattle.limits.specs.Machine.{Act, ends, goes}
+use Rattle.limits.specs.Machine.{goes}
 use Rattle.hume.specs.Words.{Word, null, none, link, bits, isNull, isValue}
-use Rattle.hume.specs.State.{State, End, fault, values, locals, without, need, leaving, stacks, below}
+use Rattle.hume.specs.State.{State, fault, values, locals, without, need, leaving, stacks, below}
 use Rattle.hume.specs.Instructions.{MkNone, Push, Pop, Slide, Copy, argument, hasArgument, CopyArg, CreateFrame, hasLocal, PushVar, MakeVar}
 use Rattle.laws.specs.Sizes.{Small}
 use Rattle.laws.proofs.Tests.{of-true}
@@ -136,7 +136,7 @@ module _ {lim : Limits} {r : Regs} (f : Fit lim r) {st he : List ℕ} {ws hs : L
       (h .hp)
       (h .lp
       ∙ ap (λ (n : ℕ). r .fp + n)
-          (sym (locals-append (r .fp) (without (a + 1) ws) x (omega (arith, z)) ∙ locals-without (r .fp) (a + 1) ws m)))
+      (sym (locals-append (r .fp) (without (a + 1) ws) x (omega (arith, z)) ∙ locals-without (r .fp) (a + 1) ws m)))
 
   pub slide-bears : (a n : ℕ) → a < r .sp - r .lp → n ≡ bits (below ws 0) → r .sp ≤ length st
       → Bears (set st (r .sp - (a + 1)) n) (without (a + 1) ws ++ below ws 0 ∷ [])
@@ -204,7 +204,7 @@ module _ {lim : Limits} {r : Regs} (f : Fit lim r) {st he : List ℕ} {ws hs : L
       (h .hp)
       (h .lp
       ∙ ap (λ (n : ℕ). r .fp + n)
-          (sym (locals-append (r .fp) ws (replicate a null) (omega (arith, h .sp, f .fp, f .lp)))))
+      (sym (locals-append (r .fp) ws (replicate a null) (omega (arith, h .sp, f .fp, f .lp)))))
 
   pub push-nulls-bears : (a : ℕ) (l : List ℕ) → r .sp + a ≤ length st → l ≡ sets st (r .sp) (replicate a 0)
       → Bears l (ws ++ replicate a null)
@@ -233,21 +233,21 @@ module _ {lim : Limits} {r : Regs} (f : Fit lim r) {st he : List ℕ} {ws hs : L
       lead-still cost s (framing r a)
       (need-yes (leb 3 (values s)) 4 _ (le→leb 3 (values s) (rw (values-are h wi or false) k))
       ∙ ap
-          (λ (n : ℕ).
-              goes 0
-              (leaving s
-              (record {
-                pc = r .pc + 1;
-                fp = n + 1;
-                slp = r .slp;
-                rp = r .rp;
-                mp = r .mp;
-                inp = r .inp;
-                rs = r .rs;
-              })
-              (ws ++ us)
-              []))
-          (sym (h .sp)))
+      (λ (n : ℕ).
+      goes 0
+      (leaving s
+      (record {
+        pc = r .pc + 1;
+        fp = n + 1;
+        slp = r .slp;
+        rp = r .rp;
+        mp = r .mp;
+        inp = r .inp;
+        rs = r .rs;
+      })
+      (ws ++ us)
+      []))
+      (sym (h .sp)))
       (omega (arith, h .sp, y, z))
       (h .hp)
       (ap (λ (n : ℕ). r .sp + 1 + n) (sym (locals-link ws (replicate a null) (r .fp) a (r .sp) (h .sp) m)))
@@ -322,9 +322,9 @@ module _ {lim : Limits} {r : Regs} (f : Fit lim r) {st he : List ℕ} {ws hs : L
       (h .hp)
       (h .lp
       ∙ ap (λ (n : ℕ). r .fp + n)
-          (sym
-          (locals-without (r .fp) 1 vs (omega (arith, h .sp, y, f .fp, f .lp))
-          ∙ locals-set (r .fp) (r .fp + a) ws (below ws 0) (omega arith))))
+      (sym
+      (locals-without (r .fp) 1 vs (omega (arith, h .sp, y, f .fp, f .lp))
+      ∙ locals-set (r .fp) (r .fp + a) ws (below ws 0) (omega arith))))
 
   pub make-var-bears : (a n : ℕ) → 1 ≤ r .sp - r .lp → a < r .lp - r .fp → n ≡ bits (below ws 0)
       → Bears (set st (r .fp + a) n) (without 1 (set ws (r .fp + a) (below ws 0)))

@@ -5,20 +5,20 @@ use mathlib.Core.List.{List, [], _∷_, _++_, append-nil}
 use Prim.Native.Nat.{ℕ, _+_, _*_, _-_, _/_, _%_, _^_, _≤_, _<_}
 use native.Mathlib.Decide.{ℕ-discrete}
 use native.Mathlib.Omega.{arith}
-use lib.Dec.{T, leb, eqb, leb→le, le→leb, eqb→eq}
+use lib.Dec.{leb, eqb, leb→le, le→leb, eqb→eq}
 use lib.ListN.{length, getD, set, take, length-append, length-set}
 use lib.Seq.{length-take-le, append-snoc}
-use borrow.Author.Tests.{leb-true, eq-eqb, ne-eqb, le-leb, lt-leb}
-use Rattle.limits.specs.Machine.{Act, ends, goes}
+use borrow.Author.Tests.{eq-eqb, ne-eqb, le-leb, lt-leb}
+use Rattle.limits.specs.Machine.{goes}
 use Rattle.hume.specs.Words.{Word, null, ret, rules, static, bits, boolHeader}
-use Rattle.hume.specs.State.{State, End, fault, values, locals, without, need, leaving, turns, at, below, second, isCell}
+use Rattle.hume.specs.State.{State, fault, values, locals, without, leaving, at, below, second, isCell}
 use Rattle.hume.specs.State as state
 use Rattle.hume.specs.Tests.{pick}
 use Rattle.hume.specs.Image.{Program}
 use Rattle.hume.specs.Machine.{charged}
 use Rattle.hume.specs.Instructions.{Goto, If, Call, saved, frameOk, Return, Schedule}
 use Rattle.laws.specs.Sizes.{Small}
-use Rattle.laws.proofs.Tests.{of-true, to-true, and-left, pick-true, pick-false, eqb-of}
+use Rattle.laws.proofs.Tests.{of-true, and-left, pick-true, pick-false, eqb-of}
 use Rattle.laws.proofs.Deeds.{need-yes, need-no}
 use Rattle.engine.specs.Fits.{Fit, Refs}
 use Rattle.engine.specs.Frames.{Framed, framed}
@@ -290,11 +290,11 @@ module _ {lim : Limits} {r : Regs} (f : Fit lim r) {st he : List ℕ} {ws hs : L
       let z : length ws + 3 + 1 ≡ r .sp + 4 = omega (arith, h .sp) in
       lead-still cost s (entering r a to)
       (λ i.
-          goes 0
-          (leaving s
-          (record { pc = e i; fp = r .fp; slp = z i; rp = 0; mp = r .mp; inp = r .inp; rs = a })
-          (ws ++ us)
-          []))
+      goes 0
+      (leaving s
+      (record { pc = e i; fp = r .fp; slp = z i; rp = 0; mp = r .mp; inp = r .inp; rs = a })
+      (ws ++ us)
+      []))
       (omega (arith, h .sp, y))
       (h .hp)
       (h .lp ∙ ap (λ (n : ℕ). r .fp + n) (sym (locals-append (r .fp) ws us (omega (arith, h .sp, f .fp, f .lp)))))
@@ -327,8 +327,8 @@ module _ {lim : Limits} {r : Regs} (f : Fit lim r) {st he : List ℕ} {ws hs : L
       let b1 = bears-push st ws u (r .sp) x (h .stack) (h .sp) (ret-bits x p) (omega arith) in
       let b2 = bears-push l1 (ws ++ u ∷ []) v (r .sp + 1) y b1 (omega (arith, h .sp, m1)) (rules-bits y q) (omega (arith, n1)) in
       let b3 =
-          bears-push l2 ((ws ++ u ∷ []) ++ v ∷ []) w (r .sp + 2) z b2 (omega (arith, h .sp, m1, m2)) (static-bits z t)
-          (omega (arith, n1, n2)) in
+      bears-push l2 ((ws ++ u ∷ []) ++ v ∷ []) w (r .sp + 2) z b2 (omega (arith, h .sp, m1, m2)) (static-bits z t)
+      (omega (arith, n1, n2)) in
       subst (λ (o : List Word). Bears (set l2 (r .sp + 2) z) o)
       (append-snoc (ws ++ u ∷ []) v (w ∷ []) ∙ append-snoc ws u (v ∷ w ∷ []))
       b3
@@ -402,25 +402,25 @@ module _ {lim : Limits} {r : Regs} (f : Fit lim r) {st he : List ℕ} {ws hs : L
         (need-yes (leb 1 (values s)) 1 _ (le→leb 1 (values s) (rw (values-are h wi or false) k))
         ∙ need-yes (frameOk s) 4 _ (of-true (frame-test g ∙ z))
         ∙ sym
-            (λ i.
-                goes 0
-                (leaving s
-                (record {
-                  pc = p4 i;
-                  fp = p1 i / 256;
-                  slp = p2 i;
-                  rp = lo i;
-                  mp = r .mp;
-                  inp = r .inp;
-                  rs = p3 i / 256;
-                })
-                vs
-                [])))
+        (λ i.
+        goes 0
+        (leaving s
+        (record {
+          pc = p4 i;
+          fp = p1 i / 256;
+          slp = p2 i;
+          rp = lo i;
+          mp = r .mp;
+          inp = r .inp;
+          rs = p3 i / 256;
+        })
+        vs
+        [])))
         (omega (arith, h .sp, o, u, d))
         (h .hp)
         (l
         ∙ ap (λ (n : ℕ). getD st (r .fp - 1) 0 % 2 ^ 28 / 256 + n)
-            (sym (back-locals (below ws 0) (getD st (r .fp - 1) 0 % 2 ^ 28 / 256) (g .back (omega arith)))))
+        (sym (back-locals (below ws 0) (getD st (r .fp - 1) 0 % 2 ^ 28 / 256) (g .back (omega arith)))))
 
     pub return-bears : (n : ℕ) → 4 ≤ r .fp → r .sp ≤ length st → n ≡ bits (below ws 0)
         → Bears (set st (r .fp - 4) n) (take (r .fp - 4) ws ++ below ws 0 ∷ [])

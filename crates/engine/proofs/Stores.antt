@@ -1,16 +1,14 @@
 -- Several words stored one after the other, and what is left of a stack.
-use mathlib.Core.Path.{_≡_, refl, sym, ap, _∙_, subst}
-use mathlib.Core.Bool.{Bool, true, false}
+use mathlib.Core.Path.{_≡_, sym, ap, _∙_, subst}
 use mathlib.Core.List.{List, [], _∷_, _++_, append-nil}
 use Prim.Native.Nat.{ℕ, zero, suc, _+_, _*_, _-_, _%_, _≤_, _<_}
 use native.Mathlib.Numerals.{add-one}
 use native.Mathlib.Omega.{arith}
 use lib.Dec.{eqb, eqb→eq}
-use lib.ListN.{length, getD, set, take, replicate, length-append, length-set}
+use lib.ListN.{length, getD, set, replicate, length-append, length-set}
 use lib.Seq.{sets, length-take-le, getD-append-seam, append-snoc}
-use Rattle.hume.specs.Words.{Word, null, link, bits}
+use Rattle.hume.specs.Words.{Word, null, link}
 use Rattle.hume.specs.State.{locals, without}
-use Rattle.hume.specs.Tests.{pick}
 use Rattle.laws.proofs.Tests.{pick-false}
 use Rattle.engine.specs.Turns.{Bears}
 use Rattle.engine.proofs.Areas.{bears-push, locals-take}
@@ -59,5 +57,5 @@ locals-link ws us fp a i e k =
     pick-false (eqb (i + 1) 0) 0 (getD (ws ++ link fp a ∷ us) (i + 1 - 1) null .payload % 256)
     (λ t. let z = eqb→eq (i + 1) 0 t in omega arith)
     ∙ ap (λ (x : Word). x .payload % 256)
-        (ap (λ (j : ℕ). getD (ws ++ link fp a ∷ us) j null) (omega arith) ∙ getD-append-seam ws (link fp a) us null)
+    (ap (λ (j : ℕ). getD (ws ++ link fp a ∷ us) j null) (omega arith) ∙ getD-append-seam ws (link fp a) us null)
     ∙ m

@@ -2,7 +2,7 @@
 use mathlib.Core.Path.{_≡_, refl, sym, ap, _∙_, subst}
 use mathlib.Core.Bool.{Bool, true, false, _&&_, _||_}
 use mathlib.Core.List.{List}
-use Prim.Native.Nat.{ℕ, _+_, _*_, _/_, _%_, _^_, _≤_, _<_}
+use Prim.Native.Nat.{ℕ, _+_, _*_, _/_, _%_, _^_, _<_}
 use native.Mathlib.Omega.{arith}
 use lib.Dec.{T, eqb, eqb→eq}
 use lib.ListN.{length, getD}
@@ -10,7 +10,7 @@ use borrow.Author.Tests.{eq-eqb, ne-eqb}
 use Rattle.hume.specs.Words.{Word, null, none, bits, isNull, isRef, isNone, isValue}
 use Rattle.hume.specs.State.{numberAt, isCell, second}
 use Rattle.laws.specs.Sizes.{Small}
-use Rattle.laws.proofs.Tests.{and-left, and-right, and-both, eqb-of}
+use Rattle.laws.proofs.Tests.{and-both, eqb-of}
 use Rattle.laws.proofs.Words.{none-is, null-is}
 use Rattle.engine.specs.Turns.{Bears}
 
@@ -69,11 +69,11 @@ module _ {n : ℕ} {w : Word} (e : n ≡ bits w) (s : Small w) where
       same-test (isNone w) (eqb n 536870912)
       (λ t. eqb-of n 536870912 (e ∙ ap bits (none-is w t) ∙ bits-none))
       (λ t.
-          let z : n ≡ 536870912 = eqb→eq n 536870912 t in
-          let a = type-is in
-          let b = payload-is in
-          and-both (eqb (w .type) 2) (eqb (w .payload) 0) (eqb-of (w .type) 2 (omega arith))
-          (eqb-of (w .payload) 0 (omega arith)))
+      let z : n ≡ 536870912 = eqb→eq n 536870912 t in
+      let a = type-is in
+      let b = payload-is in
+      and-both (eqb (w .type) 2) (eqb (w .payload) 0) (eqb-of (w .type) 2 (omega arith))
+      (eqb-of (w .payload) 0 (omega arith)))
 
   pub null-test : isNull w ≡ eqb n 0
   unfolding isNull
@@ -81,11 +81,11 @@ module _ {n : ℕ} {w : Word} (e : n ≡ bits w) (s : Small w) where
       same-test (isNull w) (eqb n 0)
       (λ t. eqb-of n 0 (e ∙ ap bits (null-is w t) ∙ bits-null))
       (λ t.
-          let z : n ≡ 0 = eqb→eq n 0 t in
-          let a = type-is in
-          let b = payload-is in
-          and-both (eqb (w .type) 0) (eqb (w .payload) 0) (eqb-of (w .type) 0 (omega arith))
-          (eqb-of (w .payload) 0 (omega arith)))
+      let z : n ≡ 0 = eqb→eq n 0 t in
+      let a = type-is in
+      let b = payload-is in
+      and-both (eqb (w .type) 0) (eqb (w .payload) 0) (eqb-of (w .type) 0 (omega arith))
+      (eqb-of (w .payload) 0 (omega arith)))
 
   pub value-test : isValue w ≡ (eqb (n / 2 ^ 28) 1 || eqb n 536870912)
   unfolding isValue

@@ -68,7 +68,14 @@ impl Regs {
     }
 
     // "16 If b [-1] jumps on true"
-    pub(crate) fn if_true(self, lim: Limits, cost: usize, b: usize, stack: &[u32], heap: &[u32]) -> Turn
+    pub(crate) fn if_true(
+        self,
+        lim: Limits,
+        cost: usize,
+        b: usize,
+        stack: &[u32],
+        heap: &[u32],
+    ) -> Turn
         requires { ⌜ Fit lim self ⌝ }
         requires { ⌜ lim .stack ≤ length (now stack) ⌝ }
         requires { ⌜ lim .heap ≤ length (now heap) ⌝ }
@@ -98,7 +105,14 @@ impl Regs {
     }
 
     // "17 Call a [+3]: return address, ruleset word, static link of slp; slp becomes the new sp + 1, rp 0, pc the entry", which is `to`
-    pub(crate) fn call(self, lim: Limits, cost: usize, a: usize, to: usize, stack: &mut [u32]) -> Turn
+    pub(crate) fn call(
+        self,
+        lim: Limits,
+        cost: usize,
+        a: usize,
+        to: usize,
+        stack: &mut [u32],
+    ) -> Turn
         requires { ⌜ Fit lim self ⌝ }
         requires { ⌜ lim .stack ≤ length (now stack) ⌝ }
         ensures { λ r. ⌜ ((P : Program) (he wi or : List ℕ) → P .entry a ≡ to → Meets lim self (buffers (now (stack .entry)) he wi or) (priced cost (Call P a)) r (buffers (now (stack .exit)) he wi or)) ⌝ }

@@ -14,7 +14,7 @@ ghost use Rattle.hume.specs.Instructions.{MkNone, Push, Pop, Slide, Copy, CopyA
 ghost use Rattle.engine.specs.Turns.{Meets, priced, pushing, buffers};
 ghost use Rattle.engine.specs.Fits.{Fit};
 
-// "n" nulls from a place on: an area isn't wiped, so they are stored.
+// n nulls from a place on. An area is not wiped, so they are stored.
 fn blank(stack: &mut [u32], at: usize, n: usize)
     requires { ⌜ at + n ≤ length (now stack) ⌝ }
     ensures { λ _. ⌜ now (stack .exit) ≡ sets (now (stack .entry)) at (replicate n 0) ⌝ }

@@ -2,43 +2,33 @@ use Rattle.engine.proofs.Steering.{framed-low, framed-no-ret, framed-no
 use borrow.Author.Needs.{needs}
 use Rattle.engine.proofs.control.has_frame.Statement.{statement}
 use Rattle.engine.proofs.control.has_frame.Tie as tie
-use Rattle.engine.proofs.control.has_frame.Reads as reads
-use Rattle.engine.proofs.control.has_frame.Lts as lts
 
--- src/control.rt:24:9
 returns : tie.Need-returns
 returns c =
     let if1 = c .if1 in
     framed-low _ _ (if1 .taken)
 
--- src/control.rt:26:8
 mul-if2 : tie.Need-mul-if2
 mul-if2 c = search needs
 
--- src/control.rt:26:8
 shared-slice-read-if2 : tie.Need-shared-slice-read-if2
 shared-slice-read-if2 c = search needs
 
--- src/control.rt:27:9
 returns-2 : tie.Need-returns-2
 returns-2 c =
     let if1 = c .before .before .if1 in
     let if2 = c .if2 in
     framed-no-ret _ _ (if1 .left) (if2 .taken)
 
--- src/control.rt:29:14
 sub-if3 : tie.Need-sub-if3
 sub-if3 c = search needs
 
--- src/control.rt:29:8
 mul-if3 : tie.Need-mul-if3
 mul-if3 c = search needs
 
--- src/control.rt:29:8
 shared-slice-read-if3 : tie.Need-shared-slice-read-if3
 shared-slice-read-if3 c = search needs
 
--- src/control.rt:30:9
 returns-3 : tie.Need-returns-3
 returns-3 c =
     let if1 = c .before .before .before .before .if1 in
@@ -46,19 +36,15 @@ returns-3 c =
     let if3 = c .if3 in
     framed-no-rules _ _ (if1 .left) (if2 .left) (if3 .taken)
 
--- src/control.rt:32:14
 sub-if4 : tie.Need-sub-if4
 sub-if4 c = search needs
 
--- src/control.rt:32:8
 mul-if4 : tie.Need-mul-if4
 mul-if4 c = search needs
 
--- src/control.rt:32:8
 shared-slice-read-if4 : tie.Need-shared-slice-read-if4
 shared-slice-read-if4 c = search needs
 
--- src/control.rt:33:9
 returns-4 : tie.Need-returns-4
 returns-4 c =
     let if1 = c .before .before .before .before .before .before .if1 in
@@ -67,19 +53,15 @@ returns-4 c =
     let if4 = c .if4 in
     framed-no-static _ _ (if1 .left) (if2 .left) (if3 .left) (if4 .taken)
 
--- src/control.rt:35:11
 sub-result : tie.Need-sub-result
 sub-result c = search needs
 
--- src/control.rt:35:5
 mul-result : tie.Need-mul-result
 mul-result c = search needs
 
--- src/control.rt:35:5
 shared-slice-read-result : tie.Need-shared-slice-read-result
 shared-slice-read-result c = search needs
 
--- src/control.rt:19:1
 returns-5 : tie.Need-returns-5
 returns-5 c =
     let if1 = c .before .before .before .before .before .before .before .if1 in

@@ -2,36 +2,27 @@ use Rattle.engine.proofs.Steering.{locals-none, locals-read}
 use borrow.Author.Needs.{needs}
 use Rattle.engine.proofs.control.locals_end.Statement.{statement}
 use Rattle.engine.proofs.control.locals_end.Tie as tie
-use Rattle.engine.proofs.control.locals_end.Reads as reads
-use Rattle.engine.proofs.control.locals_end.Lts as lts
 
--- src/control.rt:44:9
 returns : tie.Need-returns
 returns c =
     let if1 = c .if1 in
     λ ws b k. locals-none _ _ (if1 .taken) ws b k
 
--- src/control.rt:46:17
 sub-result : tie.Need-sub-result
 sub-result c = search needs
 
--- src/control.rt:46:11
 mul-result : tie.Need-mul-result
 mul-result c = search needs
 
--- src/control.rt:46:11
 shared-slice-read-result : tie.Need-shared-slice-read-result
 shared-slice-read-result c = search needs
 
--- src/control.rt:46:10
 cast-result : tie.Need-cast-result
 cast-result c = search needs
 
--- src/control.rt:46:5
 add-result : tie.Need-add-result
 add-result c = search needs
 
--- src/control.rt:39:1
 returns-2 : tie.Need-returns-2
 returns-2 c =
     let if1 = c .before .if1 in

@@ -7,8 +7,6 @@ use borrow.Author.Needs.{needs}
 use Rattle.engine.proofs.Stores.{sets-next, sets-none}
 use Rattle.engine.proofs.moves.blank.Statement.{statement}
 use Rattle.engine.proofs.moves.blank.Tie as tie
-use Rattle.engine.proofs.moves.blank.Reads as reads
-use Rattle.engine.proofs.moves.blank.Lts as lts
 
 abbrev Inv-loop : tie.InvT-loop
 Inv-loop stack₀ at n end k₀ stack k =
@@ -19,50 +17,41 @@ Inv-loop stack₀ at n end k₀ stack k =
 abbrev μ-loop : tie.MeasureT-loop
 μ-loop stack₀ at n end k₀ stack k = end - k
 
--- src/moves.rt:22:15
 add-end : tie.Need-add-end Inv-loop μ-loop
 add-end c =
     omega arith
 
--- src/moves.rt:24:5
 loop-holds : tie.Need-loop-holds Inv-loop μ-loop
 loop-holds c =
     let a = c .args in
     let z : a .at + a .n - a .at ≡ a .n = omega arith in
     (refl, omega arith, ap (λ (m : ℕ). sets (a .stack .now) (a .at) (replicate m 0)) z)
 
--- src/moves.rt:25:9
 mul-stack : tie.Need-mul-stack Inv-loop μ-loop
 mul-stack c =
     search needs
 
--- src/moves.rt:25:9
 slice-write-stack : tie.Need-slice-write-stack Inv-loop μ-loop
 slice-write-stack c =
     omega arith
 
--- src/moves.rt:26:9
 add-k : tie.Need-add-k Inv-loop μ-loop
 add-k c =
     omega arith
 
--- src/moves.rt:24:5
 loop-less : tie.Need-loop-less Inv-loop μ-loop
 loop-less c =
     omega arith
 
--- src/moves.rt:24:5
 loop-again : tie.Need-loop-again Inv-loop μ-loop
 loop-again c =
     let l = c .before .loop in
     (simp length-set (omega arith), omega arith, sets-next (l .stack) (l .k) _ (c .loop-test .taken) ∙ l .inv .2)
 
--- src/moves.rt:18:1
 same-length : tie.Need-same-length Inv-loop μ-loop
 same-length c =
     omega arith
 
--- src/moves.rt:18:1
 returns : tie.Need-returns Inv-loop μ-loop
 returns c =
     let l = c .before .loop in

@@ -3,21 +3,15 @@ use Rattle.engine.proofs.WordKinds.{plain-null, plain-else}
 use borrow.Author.Needs.{needs}
 use Rattle.engine.proofs.words.is_plain.Statement.{statement}
 use Rattle.engine.proofs.words.is_plain.Tie as tie
-use Rattle.engine.proofs.words.is_plain.Reads as reads
-use Rattle.engine.proofs.words.is_plain.Lts as lts
-use Rattle.engine.proofs.words.is_value.Reads as is-value-reads
 
--- src/words.rt:22:9
 returns : tie.Need-returns
 returns c =
     let if1 = c .if1 in
     λ v e s. sym (plain-null e s (if1 .taken))
 
--- src/words.rt:24:5
 is-value-requires : tie.Need-is-value-requires
 is-value-requires c κs = search needs
 
--- src/words.rt:18:1
 returns-2 : tie.Need-returns-2
 returns-2 c =
     let is-value = c .is-value in

@@ -6,39 +6,28 @@ use Rattle.engine.proofs.Steering.{call-leads, call-bears}
 use borrow.Author.Needs.{needs}
 use Rattle.engine.proofs.regs.Regs.call.Statement.{statement}
 use Rattle.engine.proofs.regs.Regs.call.Tie as tie
-use Rattle.engine.proofs.regs.Regs.call.Reads as reads
-use Rattle.engine.proofs.regs.Regs.call.Lts as lts
-use Rattle.engine.proofs.regs.Regs.charge_depth.Reads as charge-depth-reads
 
--- src/control.rt:107:19
 add-next : tie.Need-add-next
 add-next c = search needs
 
--- src/control.rt:109:20
 add-next-2 : tie.Need-add-next-2
 add-next-2 c = search needs
 
--- src/control.rt:112:13
 charge-depth-requires : tie.Need-charge-depth-requires
 charge-depth-requires c κs = search needs
 
--- src/control.rt:114:39
 add-stack : tie.Need-add-stack
 add-stack c = search needs
 
--- src/control.rt:114:26
 add-stack-2 : tie.Need-add-stack-2
 add-stack-2 c = search needs
 
--- src/control.rt:114:25
 cast-stack : tie.Need-cast-stack
 cast-stack c = search needs
 
--- src/control.rt:114:13
 mul-stack : tie.Need-mul-stack
 mul-stack c = search needs
 
--- src/control.rt:114:13
 slice-write-stack : tie.Need-slice-write-stack
 slice-write-stack c =
     let charge-depth = c .before .before .charge-depth in
@@ -46,31 +35,24 @@ slice-write-stack c =
     let start = c .before .before .before .before in
     let p = went-on (charge-depth .ensures) (if1 .taken) in omega (arith, p .depth, start .pre .1)
 
--- src/control.rt:115:44
 mul-stack-2 : tie.Need-mul-stack-2
 mul-stack-2 c = search needs
 
--- src/control.rt:115:44
 add-stack-3 : tie.Need-add-stack-3
 add-stack-3 c = search needs
 
--- src/control.rt:115:30
 add-stack-4 : tie.Need-add-stack-4
 add-stack-4 c = search needs
 
--- src/control.rt:115:29
 cast-stack-2 : tie.Need-cast-stack-2
 cast-stack-2 c = search needs
 
--- src/control.rt:115:19
 add-stack-5 : tie.Need-add-stack-5
 add-stack-5 c = search needs
 
--- src/control.rt:115:13
 mul-stack-3 : tie.Need-mul-stack-3
 mul-stack-3 c = search needs
 
--- src/control.rt:115:13
 slice-write-stack-2 : tie.Need-slice-write-stack-2
 slice-write-stack-2 c =
     let charge-depth = c .before .before .before .before .charge-depth in
@@ -78,23 +60,18 @@ slice-write-stack-2 c =
     let start = c .before .before .before .before .before .before in
     let p = went-on (charge-depth .ensures) (if1 .taken) in simp length-set (omega (arith, p .depth, start .pre .1))
 
--- src/control.rt:116:30
 add-stack-6 : tie.Need-add-stack-6
 add-stack-6 c = search needs
 
--- src/control.rt:116:29
 cast-stack-3 : tie.Need-cast-stack-3
 cast-stack-3 c = search needs
 
--- src/control.rt:116:19
 add-stack-7 : tie.Need-add-stack-7
 add-stack-7 c = search needs
 
--- src/control.rt:116:13
 mul-stack-4 : tie.Need-mul-stack-4
 mul-stack-4 c = search needs
 
--- src/control.rt:116:13
 slice-write-stack-3 : tie.Need-slice-write-stack-3
 slice-write-stack-3 c =
     let charge-depth = c .before .before .before .before .before .charge-depth in
@@ -102,11 +79,9 @@ slice-write-stack-3 c =
     let start = c .before .before .before .before .before .before .before in
     let p = went-on (charge-depth .ensures) (if1 .taken) in simp length-set (omega (arith, p .depth, start .pre .1))
 
--- src/control.rt:100:5
 same-length : tie.Need-same-length
 same-length c = search needs
 
--- src/control.rt:100:5
 returns : tie.Need-returns
 returns c =
     let start = c .before .before .before .before .before .before .before in
@@ -114,7 +89,6 @@ returns c =
     let if1 = c .before .before .before .before .if1 in
     λ P he wi or e. record { each = λ ws hs h m n. settle-yes (call-leads (start .pre .0) h wi or P _ _ _ e) _ _ (charge-depth .ensures) (if1 .taken) (λ a b. record { stack = call-bears (start .pre .0) h wi or _ _ _ refl refl refl (omega (arith, a, start .pre .1)); heap = h .heap; wires = refl; order = refl }) }
 
--- src/control.rt:100:5
 returns-2 : tie.Need-returns-2
 returns-2 c =
     let start = c .before .before .before in

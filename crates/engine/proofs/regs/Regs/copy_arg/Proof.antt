@@ -1,26 +1,17 @@
 use mathlib.Core.Path.{refl, sym, _∙_}
-use native.Mathlib.Omega.{arith}
 use Rattle.engine.proofs.Turning.{turned-as}
 use Rattle.engine.proofs.Moving.{reads-argument, small-argument, copy-arg-low, copy-arg-kind, copy-arg-is}
 use borrow.Author.Tests.{not-true, not-false}
 use borrow.Author.Needs.{needs}
 use Rattle.engine.proofs.regs.Regs.copy_arg.Statement.{statement}
 use Rattle.engine.proofs.regs.Regs.copy_arg.Tie as tie
-use Rattle.engine.proofs.regs.Regs.copy_arg.Reads as reads
-use Rattle.engine.proofs.regs.Regs.copy_arg.Lts as lts
-use Rattle.engine.proofs.regs.Regs.halt.Reads as halt-reads
-use Rattle.engine.proofs.regs.Regs.push.Reads as push-reads
-use Rattle.engine.proofs.words.is_plain.Reads as is-plain-reads
 
--- src/moves.rt:113:17
 add-if1 : tie.Need-add-if1
 add-if1 c = search needs
 
--- src/moves.rt:114:13
 halt-requires : tie.Need-halt-requires
 halt-requires c κs = search needs
 
--- src/moves.rt:114:13
 returns : tie.Need-returns
 returns c =
     let start = c .before .before .before in
@@ -28,31 +19,24 @@ returns c =
     let halt = c .halt in
     λ he wi or. record { each = λ ws hs h m n. copy-arg-low (start .pre .0) h wi or _ _ (if1 .taken) (halt .ensures) }
 
--- src/moves.rt:116:29
 add-w : tie.Need-add-w
 add-w c = search needs
 
--- src/moves.rt:116:23
 sub-w : tie.Need-sub-w
 sub-w c = search needs
 
--- src/moves.rt:116:17
 mul-w : tie.Need-mul-w
 mul-w c = search needs
 
--- src/moves.rt:116:17
 slice-read-w : tie.Need-slice-read-w
 slice-read-w c = search needs
 
--- src/moves.rt:117:13
 is-plain-requires : tie.Need-is-plain-requires
 is-plain-requires c κs = search needs
 
--- src/moves.rt:118:13
 halt-requires-2 : tie.Need-halt-requires-2
 halt-requires-2 c κs = search needs
 
--- src/moves.rt:118:13
 returns-2 : tie.Need-returns-2
 returns-2 c =
     let start = c .before .before .before .before .before .before in
@@ -62,15 +46,12 @@ returns-2 c =
     let halt2 = c .halt2 in
     λ he wi or. record { each = λ ws hs h m n. copy-arg-kind (start .pre .0) h wi or _ _ (if1 .left) (sym (is-plain .ensures _ (reads-argument (start .pre .0) h wi or _ _ (if1 .left) refl) (small-argument (start .pre .0) h wi or _ m)) ∙ not-true _ (if2 .taken)) (halt2 .ensures) }
 
--- src/moves.rt:120:9
 push-requires : tie.Need-push-requires
 push-requires c κs = search needs
 
--- src/moves.rt:106:5
 same-length : tie.Need-same-length
 same-length c = search needs
 
--- src/moves.rt:106:5
 returns-3 : tie.Need-returns-3
 returns-3 c =
     let start = c .before .before .before .before .before .before .before .before .before in

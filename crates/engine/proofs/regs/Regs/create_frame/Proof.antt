@@ -6,21 +6,13 @@ use Rattle.engine.proofs.Moving.{create-few, create-leads, create-bears
 use borrow.Author.Needs.{needs}
 use Rattle.engine.proofs.regs.Regs.create_frame.Statement.{statement}
 use Rattle.engine.proofs.regs.Regs.create_frame.Tie as tie
-use Rattle.engine.proofs.regs.Regs.create_frame.Reads as reads
-use Rattle.engine.proofs.regs.Regs.create_frame.Lts as lts
-use Rattle.engine.proofs.moves.blank.Reads as blank-reads
-use Rattle.engine.proofs.regs.Regs.charge_depth.Reads as charge-depth-reads
-use Rattle.engine.proofs.regs.Regs.halt.Reads as halt-reads
 
--- src/moves.rt:149:12
 sub-if1 : tie.Need-sub-if1
 sub-if1 c = search needs
 
--- src/moves.rt:150:13
 halt-requires : tie.Need-halt-requires
 halt-requires c κs = search needs
 
--- src/moves.rt:150:13
 returns : tie.Need-returns
 returns c =
     let start = c .before .before .before .before in
@@ -28,47 +20,36 @@ returns c =
     let halt = c .halt in
     λ he wi or. record { each = λ ws hs h m n. create-few (start .pre .0) h wi or _ _ (if1 .taken) (halt .ensures) }
 
--- src/moves.rt:152:18
 add-fp : tie.Need-add-fp
 add-fp c = search needs
 
--- src/moves.rt:154:19
 add-next : tie.Need-add-next
 add-next c = search needs
 
--- src/moves.rt:156:19
 add-next-2 : tie.Need-add-next-2
 add-next-2 c = search needs
 
--- src/moves.rt:157:19
 add-next-3 : tie.Need-add-next-3
 add-next-3 c = search needs
 
--- src/moves.rt:158:13
 charge-depth-requires : tie.Need-charge-depth-requires
 charge-depth-requires c κs = search needs
 
--- src/moves.rt:160:40
 mul-stack : tie.Need-mul-stack
 mul-stack c = search needs
 
--- src/moves.rt:160:40
 add-stack : tie.Need-add-stack
 add-stack c = search needs
 
--- src/moves.rt:160:26
 add-stack-2 : tie.Need-add-stack-2
 add-stack-2 c = search needs
 
--- src/moves.rt:160:25
 cast-stack : tie.Need-cast-stack
 cast-stack c = search needs
 
--- src/moves.rt:160:13
 mul-stack-2 : tie.Need-mul-stack-2
 mul-stack-2 c = search needs
 
--- src/moves.rt:160:13
 slice-write-stack : tie.Need-slice-write-stack
 slice-write-stack c =
     let charge-depth = c .before .before .charge-depth in
@@ -76,7 +57,6 @@ slice-write-stack c =
     let start = c .before .before .before .before .before .before .before in
     let p = went-on (charge-depth .ensures) (if2 .taken) in omega (arith, p .depth, start .pre .1 .0)
 
--- src/moves.rt:161:13
 blank-requires : tie.Need-blank-requires
 blank-requires c κs =
     let charge-depth = c .before .before .before .charge-depth in
@@ -84,12 +64,10 @@ blank-requires c κs =
     let start = c .before .before .before .before .before .before .before .before in
     let p = went-on (charge-depth .ensures) (if2 .taken) in simp length-set (omega (arith, p .depth, start .pre .1 .0))
 
--- src/moves.rt:142:5
 same-length : tie.Need-same-length
 same-length c =
     c .before .before .blank .kept .0 ∙ simp length-set
 
--- src/moves.rt:142:5
 returns-2 : tie.Need-returns-2
 returns-2 c =
     let start = c .before .before .before .before .before .before .before .before .before .before .before in
@@ -99,7 +77,6 @@ returns-2 c =
     let blank = c .before .before .blank in
     λ he wi or. record { each = λ ws hs h m n. settle-yes (create-leads (start .pre .0) h wi or _ _ (start .pre .1 .1) (if1 .left)) _ _ (charge-depth .ensures) (if2 .taken) (λ a b. record { stack = create-bears (start .pre .0) h wi or _ _ _ refl (omega (arith, a, start .pre .1 .0)) (blank .ensures); heap = h .heap; wires = refl; order = refl }) }
 
--- src/moves.rt:142:5
 returns-3 : tie.Need-returns-3
 returns-3 c =
     let start = c .before .before .before .before .before .before in

@@ -6,22 +6,13 @@ use Rattle.engine.proofs.Steering.{framed-deep, return-few, return-bad,
 use borrow.Author.Needs.{needs}
 use Rattle.engine.proofs.regs.Regs.give_back.Statement.{statement}
 use Rattle.engine.proofs.regs.Regs.give_back.Tie as tie
-use Rattle.engine.proofs.regs.Regs.give_back.Reads as reads
-use Rattle.engine.proofs.regs.Regs.give_back.Lts as lts
-use Rattle.engine.proofs.control.has_frame.Reads as has-frame-reads
-use Rattle.engine.proofs.control.locals_end.Reads as locals-end-reads
-use Rattle.engine.proofs.regs.Regs.charge_time.Reads as charge-time-reads
-use Rattle.engine.proofs.regs.Regs.halt.Reads as halt-reads
 
--- src/control.rt:130:12
 sub-if1 : tie.Need-sub-if1
 sub-if1 c = search needs
 
--- src/control.rt:131:13
 halt-requires : tie.Need-halt-requires
 halt-requires c κs = search needs
 
--- src/control.rt:131:13
 returns : tie.Need-returns
 returns c =
     let start = c .before .before .before .before in
@@ -29,19 +20,15 @@ returns c =
     let halt = c .halt in
     λ he wi or. record { each = λ ws hs h m n. return-few (start .pre .0) h wi or _ (if1 .taken) (halt .ensures) }
 
--- src/control.rt:133:13
 has-frame-requires : tie.Need-has-frame-requires
 has-frame-requires c κs = search needs
 
--- src/control.rt:134:13
 halt-requires-2 : tie.Need-halt-requires-2
 halt-requires-2 c κs = search needs
 
--- src/control.rt:134:13
 same-length : tie.Need-same-length
 same-length c = search needs
 
--- src/control.rt:134:13
 returns-2 : tie.Need-returns-2
 returns-2 c =
     let start = c .before .before .before .before .before .before .before in
@@ -51,99 +38,78 @@ returns-2 c =
     let halt2 = c .halt2 in
     λ he wi or. record { each = λ ws hs h m n. return-bad (start .pre .0) h wi or m _ (if1 .left) (start .pre .1 .1) (sym (has-frame .ensures) ∙ not-true _ (if2 .taken)) (halt2 .ensures) }
 
--- src/control.rt:136:25
 sub-top : tie.Need-sub-top
 sub-top c = search needs
 
--- src/control.rt:136:19
 mul-top : tie.Need-mul-top
 mul-top c = search needs
 
--- src/control.rt:136:19
 slice-read-top : tie.Need-slice-read-top
 slice-read-top c = search needs
 
--- src/control.rt:137:27
 sub-ruled : tie.Need-sub-ruled
 sub-ruled c =
     let has-frame = c .before .before .has-frame in
     let if2 = c .before .if2 in
     let d = framed-deep _ _ (sym (has-frame .ensures) ∙ not-false _ (if2 .left)) in omega (arith, d)
 
--- src/control.rt:137:21
 mul-ruled : tie.Need-mul-ruled
 mul-ruled c = search needs
 
--- src/control.rt:137:21
 slice-read-ruled : tie.Need-slice-read-ruled
 slice-read-ruled c = search needs
 
--- src/control.rt:138:27
 sub-back : tie.Need-sub-back
 sub-back c =
     let has-frame = c .before .before .before .has-frame in
     let if2 = c .before .before .if2 in
     let d = framed-deep _ _ (sym (has-frame .ensures) ∙ not-false _ (if2 .left)) in omega (arith, d)
 
--- src/control.rt:138:21
 mul-back : tie.Need-mul-back
 mul-back c = search needs
 
--- src/control.rt:138:21
 slice-read-back : tie.Need-slice-read-back
 slice-read-back c = search needs
 
--- src/control.rt:138:20
 cast-back : tie.Need-cast-back
 cast-back c = search needs
 
--- src/control.rt:140:26
 sub-next : tie.Need-sub-next
 sub-next c =
     let has-frame = c .before .before .before .before .has-frame in
     let if2 = c .before .before .before .if2 in
     let d = framed-deep _ _ (sym (has-frame .ensures) ∙ not-false _ (if2 .left)) in omega (arith, d)
 
--- src/control.rt:140:20
 mul-next : tie.Need-mul-next
 mul-next c = search needs
 
--- src/control.rt:140:20
 slice-read-next : tie.Need-slice-read-next
 slice-read-next c = search needs
 
--- src/control.rt:140:19
 cast-next : tie.Need-cast-next
 cast-next c = search needs
 
--- src/control.rt:141:19
 cast-next-2 : tie.Need-cast-next-2
 cast-next-2 c = search needs
 
--- src/control.rt:142:19
 cast-next-3 : tie.Need-cast-next-3
 cast-next-3 c = search needs
 
--- src/control.rt:143:27
 sub-next-2 : tie.Need-sub-next-2
 sub-next-2 c =
     let has-frame = c .before .before .before .before .before .has-frame in
     let if2 = c .before .before .before .before .if2 in
     let d = framed-deep _ _ (sym (has-frame .ensures) ∙ not-false _ (if2 .left)) in omega (arith, d)
 
--- src/control.rt:143:21
 mul-next-2 : tie.Need-mul-next-2
 mul-next-2 c = search needs
 
--- src/control.rt:143:21
 slice-read-next-2 : tie.Need-slice-read-next-2
 slice-read-next-2 c = search needs
 
--- src/control.rt:143:20
 cast-next-4 : tie.Need-cast-next-4
 cast-next-4 c = search needs
 
--- src/control.rt:145:9
 locals-end-requires : tie.Need-locals-end-requires
 locals-end-requires c κs =
     let has-frame = c .before .before .before .before .before .before .before .has-frame in
@@ -151,37 +117,30 @@ locals-end-requires c κs =
     let start = c .before .before .before .before .before .before .before .before .before .before .before .before in
     let d = framed-deep _ _ (sym (has-frame .ensures) ∙ not-false _ (if2 .left)) in let k = start .pre .1 .1 .back (omega (arith, d)) in omega (arith, k, start .pre .0, start .pre .1 .0)
 
--- src/control.rt:146:19
 sub-next-3 : tie.Need-sub-next-3
 sub-next-3 c =
     let has-frame = c .before .before .before .before .before .before .before .before .has-frame in
     let if2 = c .before .before .before .before .before .before .before .if2 in
     let d = framed-deep _ _ (sym (has-frame .ensures) ∙ not-false _ (if2 .left)) in omega (arith, d)
 
--- src/control.rt:147:13
 charge-time-requires : tie.Need-charge-time-requires
 charge-time-requires c κs = search needs
 
--- src/control.rt:149:19
 sub-stack : tie.Need-sub-stack
 sub-stack c =
     let has-frame = c .before .before .before .before .before .before .before .before .before .before .has-frame in
     let if2 = c .before .before .before .before .before .before .before .before .before .if2 in
     let d = framed-deep _ _ (sym (has-frame .ensures) ∙ not-false _ (if2 .left)) in omega (arith, d)
 
--- src/control.rt:149:13
 mul-stack : tie.Need-mul-stack
 mul-stack c = search needs
 
--- src/control.rt:149:13
 slice-write-stack : tie.Need-slice-write-stack
 slice-write-stack c = search needs
 
--- src/control.rt:122:5
 same-length-2 : tie.Need-same-length-2
 same-length-2 c = search needs
 
--- src/control.rt:122:5
 returns-3 : tie.Need-returns-3
 returns-3 c =
     let has-frame = c .before .before .before .before .before .before .before .before .before .before .has-frame in
@@ -193,11 +152,9 @@ returns-3 c =
     let if3 = c .if3 in
     let d = framed-deep _ _ (sym (has-frame .ensures) ∙ not-false _ (if2 .left)) in λ he wi or. record { each = λ ws hs h m n. settle-yes (return-leads (start .pre .0) h wi or m _ _ (if1 .left) (start .pre .1 .1) (sym (has-frame .ensures) ∙ not-false _ (if2 .left)) (locals-end .ensures ws (h .stack) (omega (arith, d, start .pre .1 .1 .back (omega arith), h .sp, start .pre .0 .fp, start .pre .0 .lp)))) _ _ (charge-time .ensures) (if3 .taken) (λ a b. record { stack = return-bears (start .pre .0) h wi or m _ d (omega (arith, start .pre .0 .sp, start .pre .1 .0)) (reads-below h 0 _ (omega (arith, if1 .left)) refl); heap = h .heap; wires = refl; order = refl }) }
 
--- src/control.rt:122:5
 same-length-3 : tie.Need-same-length-3
 same-length-3 c = search needs
 
--- src/control.rt:122:5
 returns-4 : tie.Need-returns-4
 returns-4 c =
     let has-frame = c .before .before .before .before .before .before .before .before .before .before .has-frame in

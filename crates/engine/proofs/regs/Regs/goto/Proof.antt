@@ -4,15 +4,10 @@ use Rattle.engine.proofs.Steering.{goto-leads}
 use borrow.Author.Needs.{needs}
 use Rattle.engine.proofs.regs.Regs.goto.Statement.{statement}
 use Rattle.engine.proofs.regs.Regs.goto.Tie as tie
-use Rattle.engine.proofs.regs.Regs.goto.Reads as reads
-use Rattle.engine.proofs.regs.Regs.goto.Lts as lts
-use Rattle.engine.proofs.regs.Regs.charge_time.Reads as charge-time-reads
 
--- src/control.rt:57:9
 charge-time-requires : tie.Need-charge-time-requires
 charge-time-requires c κs = search needs
 
--- src/control.rt:51:5
 returns : tie.Need-returns
 returns c =
     let start = c .before in

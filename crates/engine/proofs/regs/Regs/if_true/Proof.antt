@@ -8,20 +8,13 @@ use Rattle.engine.proofs.Steering.{if-few, if-no-ref, if-no-bool, if-ju
 use borrow.Author.Needs.{needs}
 use Rattle.engine.proofs.regs.Regs.if_true.Statement.{statement}
 use Rattle.engine.proofs.regs.Regs.if_true.Tie as tie
-use Rattle.engine.proofs.regs.Regs.if_true.Reads as reads
-use Rattle.engine.proofs.regs.Regs.if_true.Lts as lts
-use Rattle.engine.proofs.regs.Regs.charge_time.Reads as charge-time-reads
-use Rattle.engine.proofs.regs.Regs.halt.Reads as halt-reads
 
--- src/control.rt:79:12
 sub-if1 : tie.Need-sub-if1
 sub-if1 c = search needs
 
--- src/control.rt:80:13
 halt-requires : tie.Need-halt-requires
 halt-requires c κs = search needs
 
--- src/control.rt:80:13
 returns : tie.Need-returns
 returns c =
     let start = c .before .before .before .before .before in
@@ -29,23 +22,18 @@ returns c =
     let halt = c .halt in
     λ wi or. record { each = λ ws hs h m n. if-few (start .pre .0) h wi or _ _ (if1 .taken) (halt .ensures) }
 
--- src/control.rt:82:23
 sub-w : tie.Need-sub-w
 sub-w c = search needs
 
--- src/control.rt:82:17
 mul-w : tie.Need-mul-w
 mul-w c = search needs
 
--- src/control.rt:82:17
 shared-slice-read-w : tie.Need-shared-slice-read-w
 shared-slice-read-w c = search needs
 
--- src/control.rt:84:13
 halt-requires-2 : tie.Need-halt-requires-2
 halt-requires-2 c κs = search needs
 
--- src/control.rt:84:13
 returns-2 : tie.Need-returns-2
 returns-2 c =
     let start = c .before .before .before .before .before .before .before in
@@ -54,15 +42,12 @@ returns-2 c =
     let halt2 = c .halt2 in
     λ wi or. record { each = λ ws hs h m n. if-no-ref (start .pre .0) h wi or m (if1 .left) _ refl _ _ (if2 .taken) (halt2 .ensures) }
 
--- src/control.rt:86:17
 cast-p : tie.Need-cast-p
 cast-p c = search needs
 
--- src/control.rt:87:12
 mul-if3 : tie.Need-mul-if3
 mul-if3 c = search needs
 
--- src/control.rt:87:12
 shared-slice-read-if3 : tie.Need-shared-slice-read-if3
 shared-slice-read-if3 c =
     let start = c .before .before .before .before .before .before .before in
@@ -70,11 +55,9 @@ shared-slice-read-if3 c =
     let if2 = c .before .if2 in
     let k = start .pre .1 .1 .1 .each (start .args .self .sp - 1) (omega (arith, if1 .left)) (if2 .left) in omega (arith, k, start .pre .0 .hp, start .pre .1 .1 .0)
 
--- src/control.rt:88:13
 halt-requires-3 : tie.Need-halt-requires-3
 halt-requires-3 c κs = search needs
 
--- src/control.rt:88:13
 returns-3 : tie.Need-returns-3
 returns-3 c =
     let start = c .before .before .before .before .before .before .before .before .before in
@@ -84,19 +67,15 @@ returns-3 c =
     let halt3 = c .halt3 in
     λ wi or. record { each = λ ws hs h m n. if-no-bool (start .pre .0) h wi or m (if1 .left) _ refl (start .pre .1 .1 .1) (if2 .left) _ _ (if3 .taken) (halt3 .ensures) }
 
--- src/control.rt:90:22
 add-to : tie.Need-add-to
 add-to c = search needs
 
--- src/control.rt:91:17
 add-if4 : tie.Need-add-if4
 add-if4 c = search needs
 
--- src/control.rt:91:12
 mul-if4 : tie.Need-mul-if4
 mul-if4 c = search needs
 
--- src/control.rt:91:12
 shared-slice-read-if4 : tie.Need-shared-slice-read-if4
 shared-slice-read-if4 c =
     let start = c .before .before .before .before .before .before .before .before .before .before in
@@ -104,15 +83,12 @@ shared-slice-read-if4 c =
     let if2 = c .before .before .before .before .if2 in
     let k = start .pre .1 .1 .1 .each (start .args .self .sp - 1) (omega (arith, if1 .left)) (if2 .left) in omega (arith, k, start .pre .0 .hp, start .pre .1 .1 .0)
 
--- src/control.rt:95:19
 sub-next : tie.Need-sub-next
 sub-next c = search needs
 
--- src/control.rt:97:9
 charge-time-requires : tie.Need-charge-time-requires
 charge-time-requires c κs = search needs
 
--- src/control.rt:71:5
 returns-4 : tie.Need-returns-4
 returns-4 c =
     let start = c .before .before .before .before .before .before .before .before .before .before .before .before in

@@ -5,20 +5,13 @@ use Rattle.engine.proofs.Moving.{make-var-few, make-var-none, make-var-
 use borrow.Author.Needs.{needs}
 use Rattle.engine.proofs.regs.Regs.make_var.Statement.{statement}
 use Rattle.engine.proofs.regs.Regs.make_var.Tie as tie
-use Rattle.engine.proofs.regs.Regs.make_var.Reads as reads
-use Rattle.engine.proofs.regs.Regs.make_var.Lts as lts
-use Rattle.engine.proofs.regs.Regs.charge_time.Reads as charge-time-reads
-use Rattle.engine.proofs.regs.Regs.halt.Reads as halt-reads
 
--- src/moves.rt:188:12
 sub-if1 : tie.Need-sub-if1
 sub-if1 c = search needs
 
--- src/moves.rt:189:13
 halt-requires : tie.Need-halt-requires
 halt-requires c κs = search needs
 
--- src/moves.rt:189:13
 returns : tie.Need-returns
 returns c =
     let start = c .before .before .before .before in
@@ -26,15 +19,12 @@ returns c =
     let halt = c .halt in
     λ he wi or. record { each = λ ws hs h m n. make-var-few (start .pre .0) h wi or _ _ (if1 .taken) (halt .ensures) }
 
--- src/moves.rt:191:12
 sub-if2 : tie.Need-sub-if2
 sub-if2 c = search needs
 
--- src/moves.rt:192:13
 halt-requires-2 : tie.Need-halt-requires-2
 halt-requires-2 c κs = search needs
 
--- src/moves.rt:192:13
 returns-2 : tie.Need-returns-2
 returns-2 c =
     let start = c .before .before .before .before .before .before in
@@ -43,47 +33,36 @@ returns-2 c =
     let halt2 = c .halt2 in
     λ he wi or. record { each = λ ws hs h m n. make-var-none (start .pre .0) h wi or _ _ (if1 .left) (if2 .taken) (halt2 .ensures) }
 
--- src/moves.rt:194:25
 sub-top : tie.Need-sub-top
 sub-top c = search needs
 
--- src/moves.rt:194:19
 mul-top : tie.Need-mul-top
 mul-top c = search needs
 
--- src/moves.rt:194:19
 slice-read-top : tie.Need-slice-read-top
 slice-read-top c = search needs
 
--- src/moves.rt:196:19
 sub-next : tie.Need-sub-next
 sub-next c = search needs
 
--- src/moves.rt:197:19
 add-next : tie.Need-add-next
 add-next c = search needs
 
--- src/moves.rt:198:13
 charge-time-requires : tie.Need-charge-time-requires
 charge-time-requires c κs = search needs
 
--- src/moves.rt:200:19
 add-stack : tie.Need-add-stack
 add-stack c = search needs
 
--- src/moves.rt:200:13
 mul-stack : tie.Need-mul-stack
 mul-stack c = search needs
 
--- src/moves.rt:200:13
 slice-write-stack : tie.Need-slice-write-stack
 slice-write-stack c = search needs
 
--- src/moves.rt:181:5
 same-length : tie.Need-same-length
 same-length c = search needs
 
--- src/moves.rt:181:5
 returns-3 : tie.Need-returns-3
 returns-3 c =
     let start = c .before .before .before .before .before .before .before .before .before in
@@ -93,7 +72,6 @@ returns-3 c =
     let if3 = c .if3 in
     λ he wi or. record { each = λ ws hs h m n. settle-yes (make-var-leads (start .pre .0) h wi or _ _ (if1 .left) (if2 .left)) _ _ (charge-time .ensures) (if3 .taken) (λ a b. record { stack = make-var-bears (start .pre .0) h wi or _ _ (if1 .left) (if2 .left) (reads-below h 0 _ (omega (arith, if1 .left)) refl); heap = h .heap; wires = refl; order = refl }) }
 
--- src/moves.rt:181:5
 returns-4 : tie.Need-returns-4
 returns-4 c =
     let start = c .before .before .before .before .before .before .before .before .before in

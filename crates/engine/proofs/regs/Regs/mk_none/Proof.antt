@@ -6,19 +6,13 @@ use Rattle.hume.specs.Words.{none}
 use borrow.Author.Needs.{needs}
 use Rattle.engine.proofs.regs.Regs.mk_none.Statement.{statement}
 use Rattle.engine.proofs.regs.Regs.mk_none.Tie as tie
-use Rattle.engine.proofs.regs.Regs.mk_none.Reads as reads
-use Rattle.engine.proofs.regs.Regs.mk_none.Lts as lts
-use Rattle.engine.proofs.regs.Regs.push.Reads as push-reads
 
--- src/moves.rt:81:9
 push-requires : tie.Need-push-requires
 push-requires c κs = search needs
 
--- src/moves.rt:76:5
 same-length : tie.Need-same-length
 same-length c = search needs
 
--- src/moves.rt:76:5
 returns : tie.Need-returns
 returns c =
     let start = c .before .before .before .before .before in

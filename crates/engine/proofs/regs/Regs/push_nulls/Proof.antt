@@ -5,24 +5,16 @@ use Rattle.engine.proofs.Moving.{push-nulls-leads, push-nulls-bears}
 use borrow.Author.Needs.{needs}
 use Rattle.engine.proofs.regs.Regs.push_nulls.Statement.{statement}
 use Rattle.engine.proofs.regs.Regs.push_nulls.Tie as tie
-use Rattle.engine.proofs.regs.Regs.push_nulls.Reads as reads
-use Rattle.engine.proofs.regs.Regs.push_nulls.Lts as lts
-use Rattle.engine.proofs.moves.blank.Reads as blank-reads
-use Rattle.engine.proofs.regs.Regs.charge_depth.Reads as charge-depth-reads
 
--- src/moves.rt:132:19
 add-next : tie.Need-add-next
 add-next c = search needs
 
--- src/moves.rt:133:19
 add-next-2 : tie.Need-add-next-2
 add-next-2 c = search needs
 
--- src/moves.rt:134:13
 charge-depth-requires : tie.Need-charge-depth-requires
 charge-depth-requires c κs = search needs
 
--- src/moves.rt:136:13
 blank-requires : tie.Need-blank-requires
 blank-requires c κs =
     let charge-depth = c .before .before .charge-depth in
@@ -30,11 +22,9 @@ blank-requires c κs =
     let start = c .before .before .before .before .before in
     let p = went-on (charge-depth .ensures) (if1 .taken) in omega (arith, p .depth, start .pre .1 .0)
 
--- src/moves.rt:124:5
 same-length : tie.Need-same-length
 same-length c = search needs
 
--- src/moves.rt:124:5
 returns : tie.Need-returns
 returns c =
     let start = c .before .before .before .before .before .before .before .before in
@@ -43,7 +33,6 @@ returns c =
     let blank = c .before .before .blank in
     λ he wi or. record { each = λ ws hs h m n. settle-yes (push-nulls-leads (start .pre .0) h wi or _ (start .args .a)) _ _ (charge-depth .ensures) (if1 .taken) (λ a b. record { stack = push-nulls-bears (start .pre .0) h wi or (start .args .a) _ (omega (arith, a, start .pre .1 .0)) (blank .ensures); heap = h .heap; wires = refl; order = refl }) }
 
--- src/moves.rt:124:5
 returns-2 : tie.Need-returns-2
 returns-2 c =
     let start = c .before .before .before .before in

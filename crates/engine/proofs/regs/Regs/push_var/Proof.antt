@@ -5,20 +5,13 @@ use Rattle.engine.proofs.Moving.{reads-at, push-var-none, push-var-is}
 use borrow.Author.Needs.{needs}
 use Rattle.engine.proofs.regs.Regs.push_var.Statement.{statement}
 use Rattle.engine.proofs.regs.Regs.push_var.Tie as tie
-use Rattle.engine.proofs.regs.Regs.push_var.Reads as reads
-use Rattle.engine.proofs.regs.Regs.push_var.Lts as lts
-use Rattle.engine.proofs.regs.Regs.halt.Reads as halt-reads
-use Rattle.engine.proofs.regs.Regs.push.Reads as push-reads
 
--- src/moves.rt:173:12
 sub-if1 : tie.Need-sub-if1
 sub-if1 c = search needs
 
--- src/moves.rt:174:13
 halt-requires : tie.Need-halt-requires
 halt-requires c κs = search needs
 
--- src/moves.rt:174:13
 returns : tie.Need-returns
 returns c =
     let start = c .before .before .before .before in
@@ -26,27 +19,21 @@ returns c =
     let halt = c .halt in
     λ he wi or. record { each = λ ws hs h m n. push-var-none (start .pre .0) h wi or _ _ (if1 .taken) (halt .ensures) }
 
--- src/moves.rt:176:23
 add-w : tie.Need-add-w
 add-w c = search needs
 
--- src/moves.rt:176:17
 mul-w : tie.Need-mul-w
 mul-w c = search needs
 
--- src/moves.rt:176:17
 slice-read-w : tie.Need-slice-read-w
 slice-read-w c = search needs
 
--- src/moves.rt:177:9
 push-requires : tie.Need-push-requires
 push-requires c κs = search needs
 
--- src/moves.rt:167:5
 same-length : tie.Need-same-length
 same-length c = search needs
 
--- src/moves.rt:167:5
 returns-2 : tie.Need-returns-2
 returns-2 c =
     let start = c .before .before .before .before .before .before .before .before in

@@ -2,15 +2,10 @@ use Rattle.engine.proofs.Steering.{schedule-turned}
 use borrow.Author.Needs.{needs}
 use Rattle.engine.proofs.regs.Regs.schedule.Statement.{statement}
 use Rattle.engine.proofs.regs.Regs.schedule.Tie as tie
-use Rattle.engine.proofs.regs.Regs.schedule.Reads as reads
-use Rattle.engine.proofs.regs.Regs.schedule.Lts as lts
-use Rattle.engine.proofs.regs.Regs.charge_time.Reads as charge-time-reads
 
--- src/control.rt:65:13
 charge-time-requires : tie.Need-charge-time-requires
 charge-time-requires c κs = search needs
 
--- src/control.rt:61:5
 returns : tie.Need-returns
 returns c =
     let start = c .before in

@@ -5,20 +5,13 @@ use Rattle.engine.proofs.Moving.{slide-few, slide-leads, slide-bears}
 use borrow.Author.Needs.{needs}
 use Rattle.engine.proofs.regs.Regs.slide.Statement.{statement}
 use Rattle.engine.proofs.regs.Regs.slide.Tie as tie
-use Rattle.engine.proofs.regs.Regs.slide.Reads as reads
-use Rattle.engine.proofs.regs.Regs.slide.Lts as lts
-use Rattle.engine.proofs.regs.Regs.charge_time.Reads as charge-time-reads
-use Rattle.engine.proofs.regs.Regs.halt.Reads as halt-reads
 
--- src/moves.rt:91:12
 sub-if1 : tie.Need-sub-if1
 sub-if1 c = search needs
 
--- src/moves.rt:92:13
 halt-requires : tie.Need-halt-requires
 halt-requires c κs = search needs
 
--- src/moves.rt:92:13
 returns : tie.Need-returns
 returns c =
     let start = c .before .before .before .before in
@@ -26,51 +19,39 @@ returns c =
     let halt = c .halt in
     λ he wi or. record { each = λ ws hs h m n. slide-few (start .pre .0) h wi or _ _ (if1 .taken) (halt .ensures) }
 
--- src/moves.rt:94:25
 sub-top : tie.Need-sub-top
 sub-top c = search needs
 
--- src/moves.rt:94:19
 mul-top : tie.Need-mul-top
 mul-top c = search needs
 
--- src/moves.rt:94:19
 slice-read-top : tie.Need-slice-read-top
 slice-read-top c = search needs
 
--- src/moves.rt:96:19
 sub-next : tie.Need-sub-next
 sub-next c = search needs
 
--- src/moves.rt:97:19
 add-next : tie.Need-add-next
 add-next c = search needs
 
--- src/moves.rt:98:13
 charge-time-requires : tie.Need-charge-time-requires
 charge-time-requires c κs = search needs
 
--- src/moves.rt:100:25
 add-stack : tie.Need-add-stack
 add-stack c = search needs
 
--- src/moves.rt:100:19
 sub-stack : tie.Need-sub-stack
 sub-stack c = search needs
 
--- src/moves.rt:100:13
 mul-stack : tie.Need-mul-stack
 mul-stack c = search needs
 
--- src/moves.rt:100:13
 slice-write-stack : tie.Need-slice-write-stack
 slice-write-stack c = search needs
 
--- src/moves.rt:85:5
 same-length : tie.Need-same-length
 same-length c = search needs
 
--- src/moves.rt:85:5
 returns-2 : tie.Need-returns-2
 returns-2 c =
     let start = c .before .before .before .before .before .before .before in
@@ -79,7 +60,6 @@ returns-2 c =
     let if2 = c .if2 in
     λ he wi or. record { each = λ ws hs h m n. settle-yes (slide-leads (start .pre .0) h wi or _ _ (if1 .left)) _ _ (charge-time .ensures) (if2 .taken) (λ a b. record { stack = slide-bears (start .pre .0) h wi or _ _ (if1 .left) (reads-below h 0 _ (omega (arith, if1 .left)) refl) (omega (arith, start .pre .0 .sp, start .pre .1)); heap = h .heap; wires = refl; order = refl }) }
 
--- src/moves.rt:85:5
 returns-3 : tie.Need-returns-3
 returns-3 c =
     let start = c .before .before .before .before .before .before .before in
