@@ -12,3 +12,4 @@ pub mod Steering
 pub mod Imaging
 pub mod Trying
 pub mod Backing
+pub mod Arms
