@@ -13,3 +13,4 @@ pub mod Imaging
 pub mod Trying
 pub mod Backing
 pub mod Arms
+pub mod Telling

@@ -71,9 +71,9 @@ module _ {n : ℕ} {v : Word} (e : n ≡ bits v) (s : Small v) where
           ∙ sym
           (to-false
           (λ t.
-              let a : v .type ≡ 2 = eqb→eq (v .type) 2 (and-left (eqb (v .type) 2) _ t) in
-              let b : v .payload ≡ 0 = eqb→eq (v .payload) 0 (and-right (eqb (v .type) 2) _ t) in
-              p (omega (arith, type-of, payload-of))))
+          let a : v .type ≡ 2 = eqb→eq (v .type) 2 (and-left (eqb (v .type) 2) _ t) in
+          let b : v .payload ≡ 0 = eqb→eq (v .payload) 0 (and-right (eqb (v .type) 2) _ t) in
+          p (omega (arith, type-of, payload-of))))
 
 -- ---- the cell that a word refers to
 

@@ -52,7 +52,14 @@ pub(crate) fn count_of(image: &[u8], at: &[usize], r: usize) -> usize
 }
 
 // "rule addresses (2 each)": that of the rule at the order position k of the ruleset rs
-pub(crate) fn rule_at(image: &[u8], at: &[usize], orders: &[usize], order: &[u32], rs: usize, k: usize) -> usize
+pub(crate) fn rule_at(
+    image: &[u8],
+    at: &[usize],
+    orders: &[usize],
+    order: &[u32],
+    rs: usize,
+    k: usize,
+) -> usize
     requires { ⌜ Imaged (now image) ⌝ }
     requires { ⌜ Located (now image) (now at) (now orders) ⌝ }
     requires { ⌜ OrderFits (program (now image)) (now order) ⌝ }

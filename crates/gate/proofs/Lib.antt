@@ -1,0 +1,5 @@
+pub mod Tests
+pub mod Rulesets
+pub mod Instructions
+pub mod Cells
+pub mod Lent
