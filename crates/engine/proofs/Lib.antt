@@ -4,3 +4,4 @@ pub mod Areas
 pub mod Moving
 pub mod Imaging
 pub mod Trying
+pub mod WordKinds

@@ -1,6 +1,6 @@
 // An accepted image, read where it lies: what is known of it makes every test of an index unnecessary.
 ghost use mathlib.Core.Path.{_≡_};
-ghost use Prim.Native.Nat.{ℕ, _+_, _^_, _≤_, _<_};
+ghost use Prim.Native.Nat.{_+_, _≤_, _<_};
 ghost use lib.ListN.{length, getD};
 ghost use Rattle.hume.specs.Image.{program, codeAt, orderAt, half as halfOf, full as fullOf};
 ghost use Rattle.laws.specs.Accepted.{OrderFits};
@@ -52,7 +52,14 @@ pub(crate) fn count_of(image: &[u8], at: &[usize], r: usize) -> usize
 }
 
 // "rule addresses (2 each)": that of the rule at the order position k of the ruleset rs
-pub(crate) fn rule_at(image: &[u8], at: &[usize], orders: &[usize], order: &[u32], rs: usize, k: usize) -> usize
+pub(crate) fn rule_at(
+    image: &[u8],
+    at: &[usize],
+    orders: &[usize],
+    order: &[u32],
+    rs: usize,
+    k: usize,
+) -> usize
     requires { ⌜ Imaged (now image) ⌝ }
     requires { ⌜ Located (now image) (now at) (now orders) ⌝ }
     requires { ⌜ OrderFits (program (now image)) (now order) ⌝ }

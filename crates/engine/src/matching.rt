@@ -1,5 +1,4 @@
 // Instructions that match a rule's patterns, and the one that changes the order of the rules.
-use arith::canonical;
 use super::Ending;
 use super::image::count_of;
 use super::image::rule_at;
@@ -7,12 +6,12 @@ use super::regs::Limits;
 use super::regs::Regs;
 use super::regs::Turn;
 use super::words::is_value;
+use arith::canonical;
 ghost use mathlib.Core.Path.{_≡_};
-ghost use mathlib.Core.Bool.{Bool};
 ghost use mathlib.Core.List.{List};
 ghost use Prim.Native.Nat.{ℕ, _+_, _-_, _*_, _/_, _%_, _^_, _≤_, _<_};
 ghost use lib.Dec.{T};
-ghost use lib.ListN.{length, getD};
+ghost use lib.ListN.{length};
 ghost use Rattle.hume.specs.Words.{Word, bits};
 ghost use Rattle.hume.specs.Image.{Program, program};
 ghost use Rattle.hume.specs.Refusals.{fieldOk, formatOf};
@@ -83,7 +82,15 @@ fn move_last(order: &mut [u32], i: usize, j: usize)
 
 impl Regs {
     // "22 StartMatches: to the current ruleset's rule at order 0"
-    pub(crate) fn start_matches(self, lim: Limits, cost: usize, image: &[u8], at: &[usize], orders: &[usize], order: &[u32]) -> Turn
+    pub(crate) fn start_matches(
+        self,
+        lim: Limits,
+        cost: usize,
+        image: &[u8],
+        at: &[usize],
+        orders: &[usize],
+        order: &[u32],
+    ) -> Turn
         requires { ⌜ Fit lim self ⌝ }
         requires { ⌜ Imaged (now image) ⌝ }
         requires { ⌜ Located (now image) (now at) (now orders) ⌝ }
@@ -198,7 +205,17 @@ impl Regs {
         }
     }
 
-    fn attempt(self, op: usize, a: usize, b: u32, c: u32, inputs: usize, stack: &[u32], heap: &[u32], wires: &[u32]) -> Attempt
+    fn attempt(
+        self,
+        op: usize,
+        a: usize,
+        b: u32,
+        c: u32,
+        inputs: usize,
+        stack: &[u32],
+        heap: &[u32],
+        wires: &[u32],
+    ) -> Attempt
         requires { ⌜ (26 ≤ op) × (op ≤ 32) × (a < 256) × (b < 65536) ⌝ }
         requires { ⌜ (self .mp < 2 ^ 32) × (self .fp ≤ self .sp) × (self .sp ≤ length (now stack)) × (self .hp ≤ length (now heap)) ⌝ }
         requires { ⌜ Refs self (now stack) ⌝ }
@@ -212,7 +229,18 @@ impl Regs {
     }
 
     // "A failure goes to the rule at order rp"; "3 no rule left after a failed match"
-    fn conclude(self, lim: Limits, cost: usize, hit: bool, mp: usize, inp: usize, image: &[u8], at: &[usize], orders: &[usize], order: &[u32]) -> Turn
+    fn conclude(
+        self,
+        lim: Limits,
+        cost: usize,
+        hit: bool,
+        mp: usize,
+        inp: usize,
+        image: &[u8],
+        at: &[usize],
+        orders: &[usize],
+        order: &[u32],
+    ) -> Turn
         requires { ⌜ Fit lim self ⌝ }
         requires { ⌜ Imaged (now image) ⌝ }
         requires { ⌜ Located (now image) (now at) (now orders) ⌝ }
@@ -236,7 +264,23 @@ impl Regs {
     }
 
     // 26 to 32: what is tested differs, a failure doesn't.
-    pub(crate) fn matching(self, lim: Limits, cost: usize, op: usize, a: usize, b: u32, c: u32, inputs: usize, image: &[u8], at: &[usize], orders: &[usize], order: &[u32], stack: &[u32], heap: &[u32], wires: &[u32]) -> Turn
+    pub(crate) fn matching(
+        self,
+        lim: Limits,
+        cost: usize,
+        op: usize,
+        a: usize,
+        b: u32,
+        c: u32,
+        inputs: usize,
+        image: &[u8],
+        at: &[usize],
+        orders: &[usize],
+        order: &[u32],
+        stack: &[u32],
+        heap: &[u32],
+        wires: &[u32],
+    ) -> Turn
         requires { ⌜ Fit lim self ⌝ }
         requires { ⌜ (26 ≤ op) × (op ≤ 32) × (a < 256) × (b < 65536) ⌝ }
         requires { ⌜ Imaged (now image) ⌝ }
@@ -256,7 +300,15 @@ impl Regs {
     }
 
     // "34 Reorder: the rule at order position rp goes last, those after it move down one; with rp = count, nothing"
-    pub(crate) fn reorder(self, lim: Limits, cost: usize, image: &[u8], at: &[usize], orders: &[usize], order: &mut [u32]) -> Turn
+    pub(crate) fn reorder(
+        self,
+        lim: Limits,
+        cost: usize,
+        image: &[u8],
+        at: &[usize],
+        orders: &[usize],
+        order: &mut [u32],
+    ) -> Turn
         requires { ⌜ Fit lim self ⌝ }
         requires { ⌜ Imaged (now image) ⌝ }
         requires { ⌜ Located (now image) (now at) (now orders) ⌝ }
