@@ -205,6 +205,7 @@ impl Regs {
         }
     }
 
+    // 26 by the input, 27 to 32 by the argument
     fn attempt(
         self,
         op: usize,
