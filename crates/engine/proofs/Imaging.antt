@@ -1,16 +1,15 @@
 -- Laws of an accepted image: each place that is read lies inside it.
-use mathlib.Core.Path.{_≡_, refl, sym, ap, _∙_, subst}
+use mathlib.Core.Path.{_≡_, sym, ap, _∙_, subst}
 use mathlib.Core.List.{List}
 use Prim.Native.Nat.{ℕ, zero, suc, _+_, _*_, _≤_, _<_}
 use native.Mathlib.Nat.{not-suc-le-zero}
 use native.Mathlib.Decide.{ℕ-discrete}
 use native.Mathlib.Omega.{arith}
-use lib.Dec.{T}
 use lib.ListN.{length, getD, take, drop}
 use lib.Seq.{getD-take, getD-drop}
 use Rattle.hume.specs.Image.{Program, program, byte, half, full, rulesetAt, codeAt, orderAt}
 use Rattle.hume.specs.Refusals.{orderOf}
-use Rattle.laws.specs.Accepted.{Accepted, OrderFits, InstructionFits}
+use Rattle.laws.specs.Accepted.{OrderFits}
 use Rattle.laws.proofs.Permutation.{permutation-lt}
 use Rattle.engine.specs.Fits.{Imaged, Located}
 use Rattle.engine.specs.Tables.{Placed}

@@ -1,31 +1,31 @@
 -- What matching leads to.
 use mathlib.Core.Path.{_≡_, refl, sym, ap, _∙_, subst}
-use mathlib.Core.Bool.{Bool, true, false, _&&_, _||_, not}
+use mathlib.Core.Bool.{Bool, true, false, not}
 use mathlib.Core.List.{List, [], _∷_, _++_, append-nil, append-assoc}
-use Prim.Native.Nat.{ℕ, zero, suc, _+_, _-_, _*_, _/_, _%_, _^_, _≤_, _<_}
+use Prim.Native.Nat.{ℕ, suc, _+_, _-_, _*_, _/_, _%_, _^_, _≤_, _<_}
 use native.Mathlib.Decide.{ℕ-discrete}
 use native.Mathlib.Omega.{arith}
 use lib.Dec.{T, leb, ltb, eqb, leb→le, le→leb, ltb→lt, lt→ltb, eqb→eq}
 use lib.ListN.{length, getD, take, drop, set, length-append, length-drop, take-append-drop}
 use lib.Seq.{length-take-le, take-suc, drop-cons, set-at, getD-drop, getD-append-add}
-use borrow.Author.Tests.{eq-eqb, ne-eqb, eqb-true, eqb-false, lt-ltb, le-ltb}
-use Rattle.limits.specs.Machine.{Act, ends, goes}
+use borrow.Author.Tests.{eq-eqb, ne-eqb}
+use Rattle.limits.specs.Machine.{ends, goes}
 use Rattle.hume.specs.Tests.{pick}
-use Rattle.hume.specs.Words.{Word, null, bits, isRef, isNone, isValue, header}
+use Rattle.hume.specs.Words.{Word, null, bits, isValue, header}
 use Rattle.hume.specs.Numbers.{canonical}
 use Rattle.hume.specs.Image.{Program, orderAt}
 use Rattle.hume.specs.Values.{isEmpty, wireCount}
 use Rattle.hume.specs.Refusals.{fieldOk, formatOf, format}
-use Rattle.hume.specs.State.{State, End, fault, noRule, Deed, need, at, next, leaving, turns, stacks, fails, locals, lp, numberAt, isCell, second, ruleAt, ruleCount}
+use Rattle.hume.specs.State.{State, fault, noRule, Deed, at, next, leaving, turns, fails, lp, isCell, second, ruleAt, ruleCount}
 use Rattle.hume.specs.Instructions.{StartMatches, MatchRule, MatchedRule, MatchNone, MatchAvailable, moved, argument, hasArgument, matches, cellIs}
 use Rattle.hume.specs.Instructions.{MatchBool, MatchInt, MatchFloat, MatchTuple, MatchCon, MatchExn, Reorder, reordered, moveLast, instructions}
 use Rattle.hume.specs.Machine.{instruction, charged}
 use Rattle.laws.specs.Sizes.{Small}
-use Rattle.laws.proofs.Tests.{to-true, to-false, of-true, Tested, passes, misses, tested, and-left, and-right, pick-true, pick-false}
+use Rattle.laws.proofs.Tests.{of-true, pick-true, pick-false}
 use Rattle.laws.proofs.Deeds.{need-yes, need-no}
-use Rattle.engine.specs.Fits.{Fit, Refs}
-use Rattle.engine.specs.Turns.{Bears, Smalls, plain, core, Holds, halt, Buffers, Turned, priced, Charging}
-use Rattle.engine.specs.Attempts.{sought, seeks, tallied, concludes, Attempted, faulty, tries}
+use Rattle.engine.specs.Fits.{Fit}
+use Rattle.engine.specs.Turns.{Bears, plain, core, Holds, halt, Buffers, Turned, Meets, priced}
+use Rattle.engine.specs.Attempts.{sought, seeks, tallied, concludes, Attempted, faulty, tries, Attempts}
 use Rattle.engine.specs.declared.Ending.the-variants as ending
 use Rattle.engine.specs.declared.regs.Limits.{Limits}
 use Rattle.engine.specs.declared.regs.Regs.{Regs}
@@ -33,102 +33,44 @@ use Rattle.engine.specs.declared.regs.Turn.{Turn}
 use Rattle.engine.specs.declared.matching.Attempt.{Attempt}
 use Rattle.engine.proofs.Turning.{Leads, Borne, stops, lead-still, turned-as}
 use Rattle.engine.proofs.Areas.{locals-take, bears-take}
-
--- ---- what 32 bits say of the word
-
-module _ {n : ℕ} {v : Word} (e : n ≡ bits v) (s : Small v) where
-  pub type-of : n / 2 ^ 28 ≡ v .type
-  unfolding bits
-  type-of = let p : v .payload < 2 ^ 28 = s .payload in omega (arith, e)
-
-  pub payload-of : n % 2 ^ 28 ≡ v .payload
-  unfolding bits
-  payload-of = let p : v .payload < 2 ^ 28 = s .payload in omega (arith, e)
-
-  pub ref-true : n / 2 ^ 28 ≡ 1 → isRef v ≡ true
-  unfolding isRef
-  ref-true k = eq-eqb (v .type) 1 (sym type-of ∙ k)
-
-  pub ref-false : (n / 2 ^ 28 ≡ 1 → ⊥) → isRef v ≡ false
-  unfolding isRef
-  ref-false k = ne-eqb (v .type) 1 (λ p. k (type-of ∙ p))
-
-  pub value-ref : n / 2 ^ 28 ≡ 1 → true ≡ isValue v
-  unfolding isValue
-  value-ref k = rw (ref-true k)
-
-  pub value-else : (n / 2 ^ 28 ≡ 1 → ⊥) → eqb n 536870912 ≡ isValue v
-  unfolding isValue isNone
-  value-else k = rw (ref-false k) (by (ℕ-discrete n 536870912))
-    where
-      by : Dec (n ≡ 536870912) → eqb n 536870912 ≡ (eqb (v .type) 2 && eqb (v .payload) 0)
-      by (yes p) =
-          let t : v .type ≡ 2 = sym type-of ∙ omega arith in
-          let q : v .payload ≡ 0 = sym payload-of ∙ omega arith in
-          eq-eqb n 536870912 p ∙ sym (rw (eq-eqb (v .type) 2 t, eq-eqb (v .payload) 0 q))
-      by (no p) =
-          ne-eqb n 536870912 p
-          ∙ sym
-          (to-false
-          (λ t.
-          let a : v .type ≡ 2 = eqb→eq (v .type) 2 (and-left (eqb (v .type) 2) _ t) in
-          let b : v .payload ≡ 0 = eqb→eq (v .payload) 0 (and-right (eqb (v .type) 2) _ t) in
-          p (omega (arith, type-of, payload-of))))
+use Rattle.engine.proofs.WordKinds.{cell-no, cell-is, second-is}
 
 -- ---- the cell that a word refers to
 
 module _ {n : ℕ} {v : Word} (e : n ≡ bits v) (s : Small v) {he : List ℕ} {hs : List Word} (h : Bears he hs)
-    (inside : n / 2 ^ 28 ≡ 1 → n % 2 ^ 28 + 2 ≤ length hs) where
-  header-of : n / 2 ^ 28 ≡ 1 → numberAt hs (v .payload) 0 ≡ getD he (n % 2 ^ 28) 0
-  unfolding numberAt
-  header-of k =
-      let p : n % 2 ^ 28 ≡ v .payload = payload-of e s in
-      let z : v .payload + 0 ≡ n % 2 ^ 28 = omega arith in
+    (inside : n / 2 ^ 28 ≡ 1 → n % 2 ^ 28 + 2 ≤ length hs) (op a b c : ℕ) where
+  -- no cell at all, or one with another header
+  seeks-none : isCell hs v (header (op - 26) b) ≡ false → false ≡ seeks op a b c hs v
+  unfolding seeks cellIs pick
+  seeks-none k = rw k (by (eqb op 32))
+    where
+      by : (t : Bool) → false ≡ pick t false false
+      by true = refl
+      by false = refl
+
+  pub seeks-other : (n / 2 ^ 28 ≡ 1 → ⊥) → false ≡ seeks op a b c hs v
+  seeks-other k = seeks-none (cell-no e s hs (header (op - 26) b) k)
+
+  cell-here : n / 2 ^ 28 ≡ 1 → isCell hs v (header (op - 26) b) ≡ eqb (getD he (n % 2 ^ 28) 0) (header (op - 26) b)
+  cell-here k =
       let l : n % 2 ^ 28 + 2 ≤ length hs = inside k in
-      ap (λ (x : ℕ). bits (getD hs x null)) z ∙ sym (h .get (n % 2 ^ 28) (omega arith))
+      cell-is e s (header (op - 26) b) k h (omega arith)
 
-  second-of : n / 2 ^ 28 ≡ 1 → second hs v ≡ getD he (n % 2 ^ 28 + 1) 0
-  unfolding second numberAt
-  second-of k =
+  pub seeks-header : n / 2 ^ 28 ≡ 1 → (getD he (n % 2 ^ 28) 0 ≡ (op - 26) * 65536 + b → ⊥) → false ≡ seeks op a b c hs v
+  seeks-header k d = seeks-none (cell-here k ∙ ne-eqb _ _ d)
+
+  -- MatchExn asks for no more
+  pub seeks-exn : n / 2 ^ 28 ≡ 1 → getD he (n % 2 ^ 28) 0 ≡ (op - 26) * 65536 + b → op ≡ 32 → true ≡ seeks op a b c hs v
+  unfolding seeks
+  seeks-exn k d o = sym (pick-true (eqb op 32) _ _ (of-true (eq-eqb op 32 o)) ∙ cell-here k ∙ eq-eqb _ _ d)
+
+  pub seeks-second : (x : ℕ) → n / 2 ^ 28 ≡ 1 → getD he (n % 2 ^ 28) 0 ≡ (op - 26) * 65536 + b → (op ≡ 32 → ⊥)
+      → x ≡ sought op a c → eqb (getD he (n % 2 ^ 28 + 1) 0) x ≡ seeks op a b c hs v
+  unfolding seeks cellIs
+  seeks-second x k d o q =
       let l : n % 2 ^ 28 + 2 ≤ length hs = inside k in
-      ap (λ (x : ℕ). bits (getD hs (x + 1) null)) (sym (payload-of e s)) ∙ sym (h .get (n % 2 ^ 28 + 1) (omega arith))
-
-  cell-of : (g : ℕ) → n / 2 ^ 28 ≡ 1 → isCell hs v g ≡ eqb (getD he (n % 2 ^ 28) 0) g
-  unfolding isCell
-  cell-of g k = rw (ref-true e s k, header-of k)
-
-  not-cell : (g : ℕ) → (n / 2 ^ 28 ≡ 1 → ⊥) → isCell hs v g ≡ false
-  unfolding isCell
-  not-cell g k = rw (ref-false e s k)
-
-  module _ (op a b c : ℕ) where
-    -- no cell at all, or one with another header
-    seeks-none : isCell hs v (header (op - 26) b) ≡ false → false ≡ seeks op a b c hs v
-    unfolding seeks cellIs pick
-    seeks-none k = rw k (by (eqb op 32))
-      where
-        by : (t : Bool) → false ≡ pick t false false
-        by true = refl
-        by false = refl
-
-    pub seeks-other : (n / 2 ^ 28 ≡ 1 → ⊥) → false ≡ seeks op a b c hs v
-    seeks-other k = seeks-none (not-cell (header (op - 26) b) k)
-
-    pub seeks-header : n / 2 ^ 28 ≡ 1 → (getD he (n % 2 ^ 28) 0 ≡ (op - 26) * 65536 + b → ⊥) → false ≡ seeks op a b c hs v
-    seeks-header k d = seeks-none (cell-of (header (op - 26) b) k ∙ ne-eqb _ _ d)
-
-    pub seeks-exn : n / 2 ^ 28 ≡ 1 → getD he (n % 2 ^ 28) 0 ≡ (op - 26) * 65536 + b → op ≡ 32 → true ≡ seeks op a b c hs v
-    unfolding seeks
-    seeks-exn k d o =
-        sym (pick-true (eqb op 32) _ _ (of-true (eq-eqb op 32 o)) ∙ cell-of (header (op - 26) b) k ∙ eq-eqb _ _ d)
-
-    pub seeks-second : (x : ℕ) → n / 2 ^ 28 ≡ 1 → getD he (n % 2 ^ 28) 0 ≡ (op - 26) * 65536 + b → (op ≡ 32 → ⊥)
-        → x ≡ sought op a c → eqb (getD he (n % 2 ^ 28 + 1) 0) x ≡ seeks op a b c hs v
-    unfolding seeks cellIs
-    seeks-second x k d o q =
-        sym
-        (pick-false (eqb op 32) _ _ (λ t. o (eqb→eq op 32 t))
-        ∙ rw (cell-of (header (op - 26) b) k, eq-eqb _ _ d, second-of k, ← q))
+      let z : second hs v ≡ getD he (n % 2 ^ 28 + 1) 0 = second-is e s h (omega arith) in
+      sym (pick-false (eqb op 32) _ _ (λ t. o (eqb→eq op 32 t)) ∙ rw (cell-here k, eq-eqb _ _ d, z, ← q))
 
 pub sought-word : (op a c : ℕ) → op < 29 → c ≡ sought op a c
 unfolding sought
@@ -399,20 +341,37 @@ module _ {r : Regs} {st he : List ℕ} {ws hs : List Word} (h : Holds r st he ws
 
 -- ---- what an attempt comes to
 
-pub attempted-as : {P : Program} {s : State} {d e : Deed} {t : Attempt} → d ≡ e → Attempted P s e t → Attempted P s d t
-attempted-as {P} {s} {t = t} p a = subst (λ (x : Deed). Attempted P s x t) (sym p) a
+pub attempts-as : {P : Program} {r : Regs} {b : Buffers} {act act' : State → Deed} {t : Attempt}
+    → ((s : State) → act s ≡ act' s) → Attempts P r b act' t → Attempts P r b act t
+attempts-as {P} {r} {b} {t = t} p a =
+    record {
+      each = λ ws hs h m n.
+          subst (λ (d : Deed). Attempted P (core r ws hs (b .wires) (b .order) false) d t)
+          (sym (p (core r ws hs (b .wires) (b .order) false))) (a .each ws hs h m n);
+    }
 
-module _ {P : Program} {s : State} {d : Deed} {t : Attempt} {lim : Limits} {r : Regs} {b : Buffers} {q : Turn} (cost : ℕ) where
-  pub attempt-faults : Attempted P s d t → (t .fault ≡ 0 → ⊥) → q ≡ halt r (ending.Fault (t .fault))
-      → Turned lim r b (charged cost s d) q b
-  attempt-faults (faulty n p) k e = stops cost lim r b s (fault (t .fault)) p e
-  attempt-faults (tries z p) k e = absurd (k z)
+module _ {P : Program} {act : State → Deed} {t : Attempt} {lim : Limits} {r : Regs} {b : Buffers} {q : Turn} (cost : ℕ)
+    (a : Attempts P r b act t) where
+  pub attempt-faults : (t .fault ≡ 0 → ⊥) → q ≡ halt r (ending.Fault (t .fault)) → Meets lim r b (priced cost act) q b
+  attempt-faults k e =
+      record { each = λ ws hs h m n. by (core r ws hs (b .wires) (b .order) false) (a .each ws hs h m n) }
+    where
+      by : (s : State) {d : Deed} → Attempted P s d t → Turned lim r b (charged cost s d) q b
+      by s (faulty n p) = stops cost lim r b s (fault (t .fault)) p e
+      by s (tries z p) = absurd (k z)
 
-  pub attempt-goes : {b' : Buffers} → Attempted P s d t → t .fault ≡ 0
-      → Turned lim r b (charged cost s (concludes P (t .hit) (t .mp) (t .inp) s)) q b'
-      → Turned lim r b (charged cost s d) q b'
-  attempt-goes (faulty n p) k e = absurd (n k)
-  attempt-goes (tries z p) k e = turned-as cost s p e
+  pub attempt-goes : {b' : Buffers} → t .fault ≡ 0
+      → Meets lim r b (priced cost (concludes P (t .hit) (t .mp) (t .inp))) q b' → Meets lim r b (priced cost act) q b'
+  attempt-goes {b'} k g =
+      record {
+        each = λ ws hs h m n. by (core r ws hs (b .wires) (b .order) false) (a .each ws hs h m n) (g .each ws hs h m n);
+      }
+    where
+      by : (s : State) {d : Deed} → Attempted P s d t
+          → Turned lim r b (charged cost s (concludes P (t .hit) (t .mp) (t .inp) s)) q b'
+          → Turned lim r b (charged cost s d) q b'
+      by s (faulty n p) e = absurd (n k)
+      by s (tries z p) e = turned-as cost s p e
 
 -- ---- a word moved last
 

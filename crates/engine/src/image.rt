@@ -1,6 +1,6 @@
 // An accepted image, read where it lies: what is known of it makes every test of an index unnecessary.
 ghost use mathlib.Core.Path.{_≡_};
-ghost use Prim.Native.Nat.{ℕ, _+_, _^_, _≤_, _<_};
+ghost use Prim.Native.Nat.{_+_, _≤_, _<_};
 ghost use lib.ListN.{length, getD};
 ghost use Rattle.hume.specs.Image.{program, codeAt, orderAt, half as halfOf, full as fullOf};
 ghost use Rattle.laws.specs.Accepted.{OrderFits};

@@ -8,11 +8,10 @@ use super::regs::Turn;
 use super::words::is_value;
 use arith::canonical;
 ghost use mathlib.Core.Path.{_≡_};
-ghost use mathlib.Core.Bool.{Bool};
 ghost use mathlib.Core.List.{List};
 ghost use Prim.Native.Nat.{ℕ, _+_, _-_, _*_, _/_, _%_, _^_, _≤_, _<_};
 ghost use lib.Dec.{T};
-ghost use lib.ListN.{length, getD};
+ghost use lib.ListN.{length};
 ghost use Rattle.hume.specs.Words.{Word, bits};
 ghost use Rattle.hume.specs.Image.{Program, program};
 ghost use Rattle.hume.specs.Refusals.{fieldOk, formatOf};
@@ -206,6 +205,7 @@ impl Regs {
         }
     }
 
+    // 26 by the input, 27 to 32 by the argument
     fn attempt(
         self,
         op: usize,

@@ -1,6 +1,6 @@
 -- Laws of a permutation of 0..n-1: no word is too large, none stands twice, and these two are enough.
 use mathlib.Core.Path.{_≡_, refl, sym, ap, _∙_, subst}
-use mathlib.Core.Bool.{Bool, true, false, _&&_, _||_}
+use mathlib.Core.Bool.{Bool, true, false, _||_}
 use mathlib.Core.List.{List, [], _∷_, _++_}
 use Prim.Native.Nat.{ℕ, zero, suc, _+_, _≤_, _<_}
 use native.Mathlib.Nat.{not-suc-le-zero, le-of-suc-le-suc}
@@ -8,10 +8,9 @@ use native.Mathlib.Decide.{ℕ-discrete}
 use native.Mathlib.Omega.{arith}
 use lib.Dec.{T, eqb, eqb→eq}
 use lib.ListN.{length, getD, take, drop, length-append}
-use lib.Seq.{split-at, take-suc, length-take-le, getD-take}
-use Rattle.hume.specs.Tests.{every}
+use lib.Seq.{split-at, length-take-le, getD-take}
 use Rattle.hume.specs.Refusals.{among, permutation}
-use Rattle.laws.proofs.Tests.{to-true, to-false, Tested, passes, misses, tested, of-true, and-left, and-right, and-both, OneOf, one, other, or-cases, or-left, or-right, every-at, every-of, eqb-of}
+use Rattle.laws.proofs.Tests.{Tested, passes, misses, tested, of-true, and-left, and-right, and-both, OneOf, one, other, or-cases, or-left, or-right, every-at, every-of, eqb-of}
 
 -- ---- among, by index
 
@@ -145,7 +144,8 @@ permutation-lt n ws t i h =
     pigeons n ws (omega arith) (every-at n (λ x. among x ws) all) (getD ws i 0) (among-at ws i (omega arith))
 
 -- None of them stands before itself.
-pub permutation-once : (n : ℕ) (ws : List ℕ) → T (permutation n ws) → (i : ℕ) → i < n → T (among (getD ws i 0) (take i ws)) → ⊥
+pub permutation-once : (n : ℕ) (ws : List ℕ) → T (permutation n ws) → (i : ℕ) → i < n
+    → T (among (getD ws i 0) (take i ws)) → ⊥
 unfolding permutation
 permutation-once n ws t i h twice = absurd (omega (arith, few))
   where
@@ -172,15 +172,19 @@ permutation-once n ws t i h twice = absurd (omega (arith, few))
     part x (other a) = tail x (or-cases (eqb x (getD ws i 0)) (among x (drop (suc i) ws)) (unfold among in a))
 
     kept : (x : ℕ) → T (among x ws) → T (among x others)
-    kept x a = part x (among-parts x (take i ws) (getD ws i 0 ∷ drop (suc i) ws) (subst (λ (l : List ℕ). T (among x l)) split a))
+    kept x a =
+        part x (among-parts x (take i ws) (getD ws i 0 ∷ drop (suc i) ws)
+        (subst (λ (l : List ℕ). T (among x l)) split a))
 
     some : n ≤ length others
     some = enough n others (λ x l. kept x (all x l))
 
     few : suc n ≤ n
     few =
-        let a : length others ≡ length (take i ws) + length (drop (suc i) ws) = length-append (take i ws) (drop (suc i) ws) in
-        let b : length (take i ws ++ getD ws i 0 ∷ drop (suc i) ws) ≡ length (take i ws) + suc (length (drop (suc i) ws)) =
+        let a : length others ≡ length (take i ws) + length (drop (suc i) ws) =
+        length-append (take i ws) (drop (suc i) ws) in
+        let b : length (take i ws ++ getD ws i 0 ∷ drop (suc i) ws)
+        ≡ length (take i ws) + suc (length (drop (suc i) ws)) =
         length-append (take i ws) (getD ws i 0 ∷ drop (suc i) ws) in
         let d : length ws ≡ length (take i ws ++ getD ws i 0 ∷ drop (suc i) ws) = ap length split in
         let s : n ≤ length others = some in
@@ -227,7 +231,8 @@ crowd ws us (suc l) h once in-us = by (crowd ws (remove y us) l (omega arith) (�
     differ : (j : ℕ) → j < l → getD ws j 0 ≡ y → ⊥
     differ j k e =
         once l (omega arith)
-        (subst (λ (z : ℕ). T (among z (take l ws))) (getD-take l ws j 0 k ∙ e) (among-at (take l ws) j (omega (arith, long))))
+        (subst (λ (z : ℕ). T (among z (take l ws))) (getD-take l ws j 0 k ∙ e)
+        (among-at (take l ws) j (omega (arith, long))))
 
     left : (j : ℕ) → j < l → T (among (getD ws j 0) (remove y us))
     left j k = remove-among y (getD ws j 0) us (differ j k) (in-us j (omega arith))

@@ -1,36 +1,28 @@
 use Rattle.engine.proofs.Imaging.{code-room, a-is}
 use native.Mathlib.Omega.{arith}
-use mathlib.Core.Path.{_≡_, refl, sym, ap, _∙_}
+use mathlib.Core.Path.{_∙_}
 use borrow.Author.Needs.{needs}
 use Rattle.engine.proofs.image.a_at.Statement.{statement}
 use Rattle.engine.proofs.image.a_at.Tie as tie
-use Rattle.engine.proofs.image.a_at.Reads as reads
-use Rattle.engine.proofs.image.a_at.Lts as lts
-use Rattle.engine.proofs.image.byte.Reads as byte-reads
 
--- src/image.rt:83:24
 mul-byte : tie.Need-mul-byte
 mul-byte c = search needs
 
--- src/image.rt:83:17
 add-byte : tie.Need-add-byte
 add-byte c =
     let start = c .before in
     omega (arith, code-room (start .pre .0) (start .args .pc) (start .pre .1 .1))
 
--- src/image.rt:83:17
 add-byte-2 : tie.Need-add-byte-2
 add-byte-2 c =
     let start = c .before in
     omega (arith, code-room (start .pre .0) (start .args .pc) (start .pre .1 .1))
 
--- src/image.rt:83:5
 byte-requires : tie.Need-byte-requires
 byte-requires c κs =
     let start = c .before in
     omega (arith, code-room (start .pre .0) (start .args .pc) (start .pre .1 .1))
 
--- src/image.rt:78:1
 returns : tie.Need-returns
 returns c =
     let byte = c .byte in

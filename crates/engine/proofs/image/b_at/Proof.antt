@@ -1,36 +1,28 @@
 use Rattle.engine.proofs.Imaging.{code-room, b-is}
 use native.Mathlib.Omega.{arith}
-use mathlib.Core.Path.{_≡_, refl, sym, ap, _∙_}
+use mathlib.Core.Path.{_∙_}
 use borrow.Author.Needs.{needs}
 use Rattle.engine.proofs.image.b_at.Statement.{statement}
 use Rattle.engine.proofs.image.b_at.Tie as tie
-use Rattle.engine.proofs.image.b_at.Reads as reads
-use Rattle.engine.proofs.image.b_at.Lts as lts
-use Rattle.engine.proofs.image.half.Reads as half-reads
 
--- src/image.rt:91:24
 mul-half : tie.Need-mul-half
 mul-half c = search needs
 
--- src/image.rt:91:17
 add-half : tie.Need-add-half
 add-half c =
     let start = c .before in
     omega (arith, code-room (start .pre .0) (start .args .pc) (start .pre .1 .1))
 
--- src/image.rt:91:17
 add-half-2 : tie.Need-add-half-2
 add-half-2 c =
     let start = c .before in
     omega (arith, code-room (start .pre .0) (start .args .pc) (start .pre .1 .1))
 
--- src/image.rt:91:5
 half-requires : tie.Need-half-requires
 half-requires c κs =
     let start = c .before in
     omega (arith, code-room (start .pre .0) (start .args .pc) (start .pre .1 .1))
 
--- src/image.rt:86:1
 returns : tie.Need-returns
 returns c =
     let half = c .half in

@@ -1,20 +1,15 @@
 use native.Mathlib.Omega.{arith}
-use mathlib.Core.Path.{_≡_, refl, sym, ap, _∙_}
+use mathlib.Core.Path.{refl}
 use borrow.Author.Needs.{needs}
 use Rattle.engine.proofs.image.byte.Statement.{statement}
 use Rattle.engine.proofs.image.byte.Tie as tie
-use Rattle.engine.proofs.image.byte.Reads as reads
-use Rattle.engine.proofs.image.byte.Lts as lts
 
--- src/image.rt:14:5
 shared-slice-read-result : tie.Need-shared-slice-read-result
 shared-slice-read-result c = search needs
 
--- src/image.rt:14:5
 cast-result : tie.Need-cast-result
 cast-result c = omega (arith, c .shared-slice-known .given (c .before .args .i))
 
--- src/image.rt:10:1
 returns : tie.Need-returns
 returns c = (refl, omega (arith, c .shared-slice-known .given (c .before .args .i)))
 

@@ -1,34 +1,26 @@
-use Rattle.engine.proofs.Imaging.{place-room, entry-at, count-at, entry-small}
+use Rattle.engine.proofs.Imaging.{place-room, count-at}
 use native.Mathlib.Omega.{arith}
-use mathlib.Core.Path.{_≡_, refl, sym, ap, _∙_}
+use mathlib.Core.Path.{_∙_}
 use borrow.Author.Needs.{needs}
 use Rattle.engine.proofs.image.count_of.Statement.{statement}
 use Rattle.engine.proofs.image.count_of.Tie as tie
-use Rattle.engine.proofs.image.count_of.Reads as reads
-use Rattle.engine.proofs.image.count_of.Lts as lts
-use Rattle.engine.proofs.image.byte.Reads as byte-reads
 
--- src/image.rt:51:17
 mul-byte : tie.Need-mul-byte
 mul-byte c = search needs
 
--- src/image.rt:51:17
 shared-slice-read-byte : tie.Need-shared-slice-read-byte
 shared-slice-read-byte c = search needs
 
--- src/image.rt:51:17
 add-byte : tie.Need-add-byte
 add-byte c =
     let start = c .before .before .before in
     omega (arith, place-room (start .pre .0) (start .pre .1 .0) (start .args .r) (start .pre .1 .1))
 
--- src/image.rt:51:5
 byte-requires : tie.Need-byte-requires
 byte-requires c κs =
     let start = c .before .before .before in
     omega (arith, place-room (start .pre .0) (start .pre .1 .0) (start .args .r) (start .pre .1 .1))
 
--- src/image.rt:45:1
 returns : tie.Need-returns
 returns c =
     let byte = c .byte in

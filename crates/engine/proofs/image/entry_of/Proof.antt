@@ -1,28 +1,21 @@
-use Rattle.engine.proofs.Imaging.{place-room, entry-at, count-at, entry-small}
+use Rattle.engine.proofs.Imaging.{place-room, entry-at, entry-small}
 use native.Mathlib.Omega.{arith}
-use mathlib.Core.Path.{_≡_, refl, sym, ap, _∙_}
+use mathlib.Core.Path.{_∙_}
 use borrow.Author.Needs.{needs}
 use Rattle.engine.proofs.image.entry_of.Statement.{statement}
 use Rattle.engine.proofs.image.entry_of.Tie as tie
-use Rattle.engine.proofs.image.entry_of.Reads as reads
-use Rattle.engine.proofs.image.entry_of.Lts as lts
-use Rattle.engine.proofs.image.half.Reads as half-reads
 
--- src/image.rt:41:17
 mul-half : tie.Need-mul-half
 mul-half c = search needs
 
--- src/image.rt:41:17
 shared-slice-read-half : tie.Need-shared-slice-read-half
 shared-slice-read-half c = search needs
 
--- src/image.rt:41:5
 half-requires : tie.Need-half-requires
 half-requires c κs =
     let start = c .before .before .before in
     omega (arith, place-room (start .pre .0) (start .pre .1 .0) (start .args .a) (start .pre .1 .1))
 
--- src/image.rt:35:1
 returns : tie.Need-returns
 returns c =
     let half = c .half in

@@ -1,30 +1,23 @@
 use Rattle.engine.proofs.Imaging.{code-room, opcode-is}
 use native.Mathlib.Omega.{arith}
-use mathlib.Core.Path.{_≡_, refl, sym, ap, _∙_}
+use mathlib.Core.Path.{_∙_}
 use borrow.Author.Needs.{needs}
 use Rattle.engine.proofs.image.opcode_at.Statement.{statement}
 use Rattle.engine.proofs.image.opcode_at.Tie as tie
-use Rattle.engine.proofs.image.opcode_at.Reads as reads
-use Rattle.engine.proofs.image.opcode_at.Lts as lts
-use Rattle.engine.proofs.image.byte.Reads as byte-reads
 
--- src/image.rt:75:24
 mul-byte : tie.Need-mul-byte
 mul-byte c = search needs
 
--- src/image.rt:75:17
 add-byte : tie.Need-add-byte
 add-byte c =
     let start = c .before in
     omega (arith, code-room (start .pre .0) (start .args .pc) (start .pre .1 .1))
 
--- src/image.rt:75:5
 byte-requires : tie.Need-byte-requires
 byte-requires c κs =
     let start = c .before in
     omega (arith, code-room (start .pre .0) (start .args .pc) (start .pre .1 .1))
 
--- src/image.rt:70:1
 returns : tie.Need-returns
 returns c =
     let byte = c .byte in

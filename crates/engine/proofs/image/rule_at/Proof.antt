@@ -1,78 +1,62 @@
 use Rattle.engine.proofs.Imaging.{placed-of, place-room, orders-room, orders-small, ordered-rule, rule-small, order-small}
 use native.Mathlib.Omega.{arith}
-use mathlib.Core.Path.{_≡_, refl, sym, ap, _∙_}
+use mathlib.Core.Path.{_∙_}
 use borrow.Author.Needs.{needs}
 use Rattle.engine.proofs.image.rule_at.Statement.{statement}
 use Rattle.engine.proofs.image.rule_at.Tie as tie
-use Rattle.engine.proofs.image.rule_at.Reads as reads
-use Rattle.engine.proofs.image.rule_at.Lts as lts
-use Rattle.engine.proofs.image.half.Reads as half-reads
 
--- src/image.rt:63:13
 mul-o : tie.Need-mul-o
 mul-o c = search needs
 
--- src/image.rt:63:13
 shared-slice-read-o : tie.Need-shared-slice-read-o
 shared-slice-read-o c = search needs
 
--- src/image.rt:63:13
 add-o : tie.Need-add-o
 add-o c =
     let start = c .before .before .before .before .before in
     omega (arith, orders-room (start .pre .0) (start .pre .1 .0) (start .pre .1 .1 .0) (start .args .rs) (start .pre .1 .1 .1 .0), start .pre .1 .1 .1 .1)
 
--- src/image.rt:64:16
 mul-rule : tie.Need-mul-rule
 mul-rule c =
     let start = c .before .before .before .before .before in
     omega (arith, orders-room (start .pre .0) (start .pre .1 .0) (start .pre .1 .1 .0) (start .args .rs) (start .pre .1 .1 .1 .0), start .pre .1 .1 .1 .1)
 
--- src/image.rt:64:16
 shared-slice-read-rule : tie.Need-shared-slice-read-rule
 shared-slice-read-rule c =
     let start = c .before .before .before .before .before .before in
     omega (arith, orders-room (start .pre .0) (start .pre .1 .0) (start .pre .1 .1 .0) (start .args .rs) (start .pre .1 .1 .1 .0), start .pre .1 .1 .1 .1)
 
--- src/image.rt:64:16
 cast-rule : tie.Need-cast-rule
 cast-rule c =
     let start = c .before .before .before .before .before .before in
     omega (arith, place-room (start .pre .0) (placed-of (start .pre .1 .0)) (start .args .rs) (start .pre .1 .1 .1 .0), orders-small (start .pre .0) (start .pre .1 .0) (start .pre .1 .1 .0) (start .args .rs) (start .pre .1 .1 .1 .0) (start .args .k) (start .pre .1 .1 .1 .1))
 
--- src/image.rt:65:17
 mul-half : tie.Need-mul-half
 mul-half c = search needs
 
--- src/image.rt:65:17
 shared-slice-read-half : tie.Need-shared-slice-read-half
 shared-slice-read-half c = search needs
 
--- src/image.rt:65:17
 add-half : tie.Need-add-half
 add-half c =
     let start = c .before .before .before .before .before .before .before in
     omega (arith, place-room (start .pre .0) (placed-of (start .pre .1 .0)) (start .args .rs) (start .pre .1 .1 .1 .0), orders-small (start .pre .0) (start .pre .1 .0) (start .pre .1 .1 .0) (start .args .rs) (start .pre .1 .1 .1 .0) (start .args .k) (start .pre .1 .1 .1 .1))
 
--- src/image.rt:65:30
 mul-half-2 : tie.Need-mul-half-2
 mul-half-2 c =
     let start = c .before .before .before .before .before .before .before in
     omega (arith, place-room (start .pre .0) (placed-of (start .pre .1 .0)) (start .args .rs) (start .pre .1 .1 .1 .0), orders-small (start .pre .0) (start .pre .1 .0) (start .pre .1 .1 .0) (start .args .rs) (start .pre .1 .1 .1 .0) (start .args .k) (start .pre .1 .1 .1 .1))
 
--- src/image.rt:65:17
 add-half-2 : tie.Need-add-half-2
 add-half-2 c =
     let start = c .before .before .before .before .before .before .before in
     omega (arith, place-room (start .pre .0) (placed-of (start .pre .1 .0)) (start .args .rs) (start .pre .1 .1 .1 .0), orders-small (start .pre .0) (start .pre .1 .0) (start .pre .1 .1 .0) (start .args .rs) (start .pre .1 .1 .1 .0) (start .args .k) (start .pre .1 .1 .1 .1))
 
--- src/image.rt:65:5
 half-requires : tie.Need-half-requires
 half-requires c κs =
     let start = c .before .before .before .before .before .before .before in
     omega (arith, place-room (start .pre .0) (placed-of (start .pre .1 .0)) (start .args .rs) (start .pre .1 .1 .1 .0), orders-small (start .pre .0) (start .pre .1 .0) (start .pre .1 .1 .0) (start .args .rs) (start .pre .1 .1 .1 .0) (start .args .k) (start .pre .1 .1 .1 .1))
 
--- src/image.rt:55:1
 returns : tie.Need-returns
 returns c =
     let half = c .half in

@@ -1,58 +1,44 @@
 use Rattle.engine.proofs.Trying.{seeks-other, seeks-header, seeks-exn, seeks-second}
 use native.Mathlib.Omega.{arith}
-use mathlib.Core.Path.{_≡_, refl, sym, ap, _∙_}
 use borrow.Author.Needs.{needs}
 use Rattle.engine.proofs.matching.cell_matches.Statement.{statement}
 use Rattle.engine.proofs.matching.cell_matches.Tie as tie
-use Rattle.engine.proofs.matching.cell_matches.Reads as reads
-use Rattle.engine.proofs.matching.cell_matches.Lts as lts
-use Rattle.engine.proofs.matching.wanted.Reads as wanted-reads
 
--- src/matching.rt:57:9
 returns : tie.Need-returns
 returns c =
     let if1 = c .if1 in
     λ v hs e s h i. seeks-other e s h i _ _ _ _ (if1 .taken)
 
--- src/matching.rt:59:13
 cast-p : tie.Need-cast-p
 cast-p c = search needs
 
--- src/matching.rt:60:8
 mul-if2 : tie.Need-mul-if2
 mul-if2 c = search needs
 
--- src/matching.rt:60:8
 shared-slice-read-if2 : tie.Need-shared-slice-read-if2
 shared-slice-read-if2 c =
     let start = c .before .before .before in
     let if1 = c .before .if1 in
     omega (arith, start .pre .1 (if1 .left))
 
--- src/matching.rt:60:20
 sub-if2 : tie.Need-sub-if2
 sub-if2 c = search needs
 
--- src/matching.rt:60:19
 cast-if2 : tie.Need-cast-if2
 cast-if2 c = search needs
 
--- src/matching.rt:60:19
 mul-if2-2 : tie.Need-mul-if2-2
 mul-if2-2 c = search needs
 
--- src/matching.rt:60:19
 add-if2 : tie.Need-add-if2
 add-if2 c = search needs
 
--- src/matching.rt:61:9
 returns-2 : tie.Need-returns-2
 returns-2 c =
     let if1 = c .before .before .if1 in
     let if2 = c .if2 in
     λ v hs e s h i. seeks-header e s h i _ _ _ _ (if1 .left) (if2 .taken)
 
--- src/matching.rt:64:9
 returns-3 : tie.Need-returns-3
 returns-3 c =
     let if1 = c .before .before .before .if1 in
@@ -60,26 +46,21 @@ returns-3 c =
     let if3 = c .if3 in
     λ v hs e s h i. seeks-exn e s h i _ _ _ _ (if1 .left) (if2 .left) (if3 .taken)
 
--- src/matching.rt:66:10
 add-result : tie.Need-add-result
 add-result c = search needs
 
--- src/matching.rt:66:5
 mul-result : tie.Need-mul-result
 mul-result c = search needs
 
--- src/matching.rt:66:5
 shared-slice-read-result : tie.Need-shared-slice-read-result
 shared-slice-read-result c =
     let start = c .before .before .before .before .before .before in
     let if1 = c .before .before .before .before .if1 in
     omega (arith, start .pre .1 (if1 .left))
 
--- src/matching.rt:66:20
 wanted-requires : tie.Need-wanted-requires
 wanted-requires c κs = search needs
 
--- src/matching.rt:51:1
 returns-4 : tie.Need-returns-4
 returns-4 c =
     let if1 = c .before .before .before .before .before .if1 in

@@ -3,11 +3,9 @@ use borrow.Author.Needs.{needs}
 use lib.ListN.{length, set, getD, length-set}
 use native.Mathlib.Omega.{arith}
 use Prim.Native.Nat.{_+_, _-_, _≤_, _<_}
-use mathlib.Core.Path.{_≡_, refl, sym, ap, _∙_}
+use mathlib.Core.Path.{_≡_, refl, ap, _∙_}
 use Rattle.engine.proofs.matching.move_last.Statement.{statement}
 use Rattle.engine.proofs.matching.move_last.Tie as tie
-use Rattle.engine.proofs.matching.move_last.Reads as reads
-use Rattle.engine.proofs.matching.move_last.Lts as lts
 
 abbrev Inv-loop : tie.InvT-loop
 Inv-loop order₀ i j first k₀ order k = (i ≤ k) × (k < j) × (length order ≡ length order₀) × (order ≡ shifted order₀ i k)
@@ -15,61 +13,49 @@ Inv-loop order₀ i j first k₀ order k = (i ≤ k) × (k < j) × (length order
 abbrev μ-loop : tie.MeasureT-loop
 μ-loop order₀ i j first k₀ order k = j - k
 
--- src/matching.rt:74:17
 mul-first : tie.Need-mul-first Inv-loop μ-loop
 mul-first c = search needs
 
--- src/matching.rt:74:17
 slice-read-first : tie.Need-slice-read-first Inv-loop μ-loop
 slice-read-first c = search needs
 
--- src/matching.rt:76:5
 loop-holds : tie.Need-loop-holds Inv-loop μ-loop
 loop-holds c =
     let start = c .before in
     (omega arith, omega (arith, start .pre), refl, shift-none (start .args .order .now) (start .args .i))
 
--- src/matching.rt:76:11
 add-loop : tie.Need-add-loop Inv-loop μ-loop
 add-loop c = omega arith
 
--- src/matching.rt:77:23
 add-w : tie.Need-add-w Inv-loop μ-loop
 add-w c = omega arith
 
--- src/matching.rt:77:17
 mul-w : tie.Need-mul-w Inv-loop μ-loop
 mul-w c =
     let start = c .before .before .before in
     omega (arith, start .pre .1, start .good)
 
--- src/matching.rt:77:17
 slice-read-w : tie.Need-slice-read-w Inv-loop μ-loop
 slice-read-w c =
     let start = c .before .before .before .before in
     omega (arith, start .pre .1)
 
--- src/matching.rt:78:9
 mul-order : tie.Need-mul-order Inv-loop μ-loop
 mul-order c =
     let start = c .before .before .before .before in
     omega (arith, start .pre .1, start .good)
 
--- src/matching.rt:78:9
 slice-write-order : tie.Need-slice-write-order Inv-loop μ-loop
 slice-write-order c =
     let start = c .before .before .before .before in
     omega (arith, start .pre .1)
 
--- src/matching.rt:79:9
 add-k : tie.Need-add-k Inv-loop μ-loop
 add-k c = omega arith
 
--- src/matching.rt:76:5
 loop-less : tie.Need-loop-less Inv-loop μ-loop
 loop-less c = omega arith
 
--- src/matching.rt:76:5
 loop-again : tie.Need-loop-again Inv-loop μ-loop
 loop-again c =
     let loop = c .before .before .loop in
@@ -77,25 +63,21 @@ loop-again c =
     let loop-test = c .before .loop-test in
     let v = loop .inv in let p = start .pre .1 in (omega arith, omega arith, simp length-set (v .2), ap (λ x. set x (loop .k) (getD x (loop .k + 1) 0)) (v .3) ∙ shift-more (start .args .order .now) (start .args .i) (loop .k) (v .0) (omega (arith, v .1, p)) (omega (arith, p, loop-test .taken)))
 
--- src/matching.rt:81:5
 mul-order-2 : tie.Need-mul-order-2 Inv-loop μ-loop
 mul-order-2 c =
     let start = c .before .before .before in
     omega (arith, start .pre .1, start .good)
 
--- src/matching.rt:81:5
 slice-write-order-2 : tie.Need-slice-write-order-2 Inv-loop μ-loop
 slice-write-order-2 c =
     let start = c .before .before .before in
     omega (arith, start .pre .1)
 
--- src/matching.rt:70:1
 same-length : tie.Need-same-length Inv-loop μ-loop
 same-length c =
     let loop = c .before .loop in
     simp length-set (omega (arith, loop .inv .2))
 
--- src/matching.rt:70:1
 returns : tie.Need-returns Inv-loop μ-loop
 returns c =
     let loop = c .before .loop in

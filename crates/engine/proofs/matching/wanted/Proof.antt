@@ -1,35 +1,26 @@
 use Rattle.engine.proofs.Trying.{sought-word, sought-float, sought-size}
-use native.Mathlib.Omega.{arith}
-use mathlib.Core.Path.{_≡_, refl, sym, ap, _∙_}
+use mathlib.Core.Path.{_∙_}
 use borrow.Author.Needs.{needs}
 use Rattle.engine.proofs.matching.wanted.Statement.{statement}
 use Rattle.engine.proofs.matching.wanted.Tie as tie
-use Rattle.engine.proofs.matching.wanted.Reads as reads
-use Rattle.engine.proofs.matching.wanted.Lts as lts
-use Rattle.arith.proofs.canonical.Reads as canonical-reads
 
--- src/matching.rt:42:9
 returns : tie.Need-returns
 returns c =
     let if1 = c .if1 in
     sought-word _ _ _ (if1 .taken)
 
--- src/matching.rt:45:9
 canonical-requires : tie.Need-canonical-requires
 canonical-requires c κs = search needs
 
--- src/matching.rt:45:9
 returns-2 : tie.Need-returns-2
 returns-2 c =
     let canonical = c .canonical in
     let if2 = c .before .if2 in
     canonical .ensures ∙ sought-float _ _ _ (if2 .taken)
 
--- src/matching.rt:47:5
 cast-result : tie.Need-cast-result
 cast-result c = search needs
 
--- src/matching.rt:37:1
 returns-3 : tie.Need-returns-3
 returns-3 c =
     let if1 = c .before .if1 in

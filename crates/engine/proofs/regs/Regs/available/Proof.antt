@@ -1,36 +1,28 @@
 use Rattle.engine.proofs.Trying.{available-none, available-tries}
 use Rattle.engine.specs.Attempts.{faulty, tries}
 use native.Mathlib.Omega.{arith}
-use mathlib.Core.Path.{_≡_, refl, sym, ap, _∙_}
+use mathlib.Core.Path.{refl}
 use borrow.Author.Needs.{needs}
 use Rattle.engine.proofs.regs.Regs.available.Statement.{statement}
 use Rattle.engine.proofs.regs.Regs.available.Tie as tie
-use Rattle.engine.proofs.regs.Regs.available.Reads as reads
-use Rattle.engine.proofs.regs.Regs.available.Lts as lts
 
--- src/matching.rt:136:13
 returns : tie.Need-returns
 returns c =
     let if1 = c .if1 in
     λ P st he or e. record { each = λ ws hs h m n. faulty (omega arith) (available-none h _ or P (omega (arith, e, if1 .taken))) }
 
--- src/matching.rt:143:23
 mul-k : tie.Need-mul-k
 mul-k c = search needs
 
--- src/matching.rt:143:17
 mul-k-2 : tie.Need-mul-k-2
 mul-k-2 c = search needs
 
--- src/matching.rt:143:17
 shared-slice-read-k : tie.Need-shared-slice-read-k
 shared-slice-read-k c = search needs
 
--- src/matching.rt:148:18
 add-t7 : tie.Need-add-t7
 add-t7 c = search needs
 
--- src/matching.rt:129:5
 returns-2 : tie.Need-returns-2
 returns-2 c =
     let if1 = c .before .if1 in

@@ -3,39 +3,29 @@ use Rattle.engine.specs.Attempts.{faulty, tries}
 use borrow.Author.Tests.{not-true, not-false}
 use Prim.Native.Nat.{_+_, _-_, _<_}
 use native.Mathlib.Omega.{arith}
-use mathlib.Core.Path.{_≡_, refl, sym, ap, _∙_}
+use mathlib.Core.Path.{refl, sym, _∙_}
 use borrow.Author.Needs.{needs}
 use Rattle.engine.proofs.regs.Regs.compare.Statement.{statement}
 use Rattle.engine.proofs.regs.Regs.compare.Tie as tie
-use Rattle.engine.proofs.regs.Regs.compare.Reads as reads
-use Rattle.engine.proofs.regs.Regs.compare.Lts as lts
-use Rattle.engine.proofs.matching.cell_matches.Reads as cell-matches-reads
-use Rattle.engine.proofs.words.is_value.Reads as is-value-reads
 
--- src/matching.rt:159:17
 add-k : tie.Need-add-k
 add-k c = search needs
 
--- src/matching.rt:161:13
 returns : tie.Need-returns
 returns c =
     let start = c .before .before .before .before .before in
     let if1 = c .if1 in
     λ P wi or ok. record { each = λ ws hs h m n. faulty (omega arith) (compare-none h wi or P _ _ _ _ (start .pre .0 .0) (start .pre .0 .1) ok (if1 .taken)) }
 
--- src/matching.rt:169:17
 mul-w : tie.Need-mul-w
 mul-w c = search needs
 
--- src/matching.rt:169:17
 shared-slice-read-w : tie.Need-shared-slice-read-w
 shared-slice-read-w c = search needs
 
--- src/matching.rt:170:13
 is-value-requires : tie.Need-is-value-requires
 is-value-requires c κs = search needs
 
--- src/matching.rt:171:13
 returns-2 : tie.Need-returns-2
 returns-2 c =
     let start = c .before .before .before .before .before .before .before .before .before in
@@ -44,18 +34,15 @@ returns-2 c =
     let if2 = c .if2 in
     let p = start .args .self .fp - (5 + start .args .self .mp) in let l : p < start .args .self .sp = omega (arith, if1 .left, start .pre .1 .0) in λ P wi or ok. record { each = λ ws hs h m n. faulty (omega arith) (compare-kind h wi or P _ _ _ _ (start .pre .0 .0) (start .pre .0 .1) ok (if1 .left) (sym (is-value .ensures _ (argument-word h wi or _ p l refl) (m .each p)) ∙ not-true _ (if2 .taken))) }
 
--- src/matching.rt:180:18
 cell-matches-requires : tie.Need-cell-matches-requires
 cell-matches-requires c κs =
     let start = c .before .before .before .before .before .before .before .before .before in
     let if1 = c .before .before .before .before .if1 in
     let p = start .args .self .fp - (5 + start .args .self .mp) in let l : p < start .args .self .sp = omega (arith, if1 .left, start .pre .1 .0) in (start .pre .0, λ k. omega (arith, start .pre .1 .1 .each p l k, start .pre .1 .0))
 
--- src/matching.rt:181:17
 add-t12 : tie.Need-add-t12
 add-t12 c = search needs
 
--- src/matching.rt:153:5
 returns-3 : tie.Need-returns-3
 returns-3 c =
     let start = c .before .before .before .before .before .before .before .before .before .before .before in

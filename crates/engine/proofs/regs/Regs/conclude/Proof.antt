@@ -1,41 +1,27 @@
 use Rattle.engine.proofs.Trying.{hit-leads, miss-leads, miss-ends, stays}
 use Rattle.engine.proofs.Turning.{settled}
-use native.Mathlib.Omega.{arith}
-use mathlib.Core.Path.{_≡_, refl, sym, ap, _∙_}
 use borrow.Author.Needs.{needs}
 use Rattle.engine.proofs.regs.Regs.conclude.Statement.{statement}
 use Rattle.engine.proofs.regs.Regs.conclude.Tie as tie
-use Rattle.engine.proofs.regs.Regs.conclude.Reads as reads
-use Rattle.engine.proofs.regs.Regs.conclude.Lts as lts
-use Rattle.engine.proofs.image.count_of.Reads as count-of-reads
-use Rattle.engine.proofs.image.rule_at.Reads as rule-at-reads
-use Rattle.engine.proofs.regs.Regs.charge_time.Reads as charge-time-reads
-use Rattle.engine.proofs.regs.Regs.halt.Reads as halt-reads
 
--- src/matching.rt:212:23
 add-next : tie.Need-add-next
 add-next c = search needs
 
--- src/matching.rt:213:13
 charge-time-requires : tie.Need-charge-time-requires
 charge-time-requires c κs = search needs
 
--- src/matching.rt:213:13
 returns : tie.Need-returns
 returns c =
     let if1 = c .before .before .if1 in
     let charge-time = c .charge-time in
     λ st he wi. record { each = λ ws hs h m n. settled (hit-leads h wi _ _ _ _ _ _ (if1 .taken)) _ (charge-time .ensures) (λ a b. stays h wi _) }
 
--- src/matching.rt:215:13
 count-of-requires : tie.Need-count-of-requires
 count-of-requires c κs = search needs
 
--- src/matching.rt:217:13
 halt-requires : tie.Need-halt-requires
 halt-requires c κs = search needs
 
--- src/matching.rt:217:13
 returns-2 : tie.Need-returns-2
 returns-2 c =
     let if1 = c .before .before .before .before .if1 in
@@ -44,7 +30,6 @@ returns-2 c =
     let halt = c .halt in
     λ st he wi. record { each = λ ws hs h m n. miss-ends h wi _ _ _ _ _ _ (if1 .left) (rw (count-of .ensures .0) at (if2 .taken)) (halt .ensures) }
 
--- src/matching.rt:219:9
 rule-at-requires : tie.Need-rule-at-requires
 rule-at-requires c κs =
     let start = c .before .before .before .before .before .before .before .before in
@@ -52,11 +37,9 @@ rule-at-requires c κs =
     let if2 = c .if2 in
     (start .pre .1 .0, (start .pre .1 .1 .0, (start .pre .1 .1 .1 .0, (start .pre .1 .1 .1 .1, rw (count-of .ensures .0) at (if2 .left)))))
 
--- src/matching.rt:220:9
 charge-time-requires-2 : tie.Need-charge-time-requires-2
 charge-time-requires-2 c κs = search needs
 
--- src/matching.rt:200:5
 returns-3 : tie.Need-returns-3
 returns-3 c =
     let if1 = c .before .before .before .before .before .if1 in

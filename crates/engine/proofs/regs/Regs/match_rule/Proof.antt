@@ -3,21 +3,13 @@ use Rattle.engine.proofs.Turning.{settled}
 use borrow.Author.Needs.{needs}
 use Rattle.engine.proofs.regs.Regs.match_rule.Statement.{statement}
 use Rattle.engine.proofs.regs.Regs.match_rule.Tie as tie
-use Rattle.engine.proofs.regs.Regs.match_rule.Reads as reads
-use Rattle.engine.proofs.regs.Regs.match_rule.Lts as lts
-use Rattle.engine.proofs.image.count_of.Reads as count-of-reads
-use Rattle.engine.proofs.regs.Regs.charge_time.Reads as charge-time-reads
-use Rattle.engine.proofs.regs.Regs.halt.Reads as halt-reads
 
--- src/matching.rt:92:13
 count-of-requires : tie.Need-count-of-requires
 count-of-requires c κs = search needs
 
--- src/matching.rt:94:13
 halt-requires : tie.Need-halt-requires
 halt-requires c κs = search needs
 
--- src/matching.rt:94:13
 returns : tie.Need-returns
 returns c =
     let count-of = c .before .before .before .count-of in
@@ -25,19 +17,15 @@ returns c =
     let halt = c .halt in
     λ st he wi or. record { each = λ ws hs h m n. rule-none h wi or _ _ (rw (count-of .ensures .0) at (if1 .taken)) (halt .ensures) }
 
--- src/matching.rt:98:19
 add-next : tie.Need-add-next
 add-next c = search needs
 
--- src/matching.rt:99:19
 add-next-2 : tie.Need-add-next-2
 add-next-2 c = search needs
 
--- src/matching.rt:102:9
 charge-time-requires : tie.Need-charge-time-requires
 charge-time-requires c κs = search needs
 
--- src/matching.rt:85:5
 returns-2 : tie.Need-returns-2
 returns-2 c =
     let start = c .before .before .before .before .before .before .before .before in

@@ -3,19 +3,13 @@ use Rattle.engine.proofs.Turning.{settled}
 use borrow.Author.Needs.{needs}
 use Rattle.engine.proofs.regs.Regs.matched_rule.Statement.{statement}
 use Rattle.engine.proofs.regs.Regs.matched_rule.Tie as tie
-use Rattle.engine.proofs.regs.Regs.matched_rule.Reads as reads
-use Rattle.engine.proofs.regs.Regs.matched_rule.Lts as lts
-use Rattle.engine.proofs.regs.Regs.charge_time.Reads as charge-time-reads
 
--- src/matching.rt:112:19
 add-next : tie.Need-add-next
 add-next c = search needs
 
--- src/matching.rt:113:9
 charge-time-requires : tie.Need-charge-time-requires
 charge-time-requires c κs = search needs
 
--- src/matching.rt:106:5
 returns : tie.Need-returns
 returns c =
     let start = c .before .before in

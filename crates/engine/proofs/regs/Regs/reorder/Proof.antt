@@ -6,35 +6,24 @@ use mathlib.Core.Path.{refl}
 use borrow.Author.Needs.{needs}
 use Rattle.engine.proofs.regs.Regs.reorder.Statement.{statement}
 use Rattle.engine.proofs.regs.Regs.reorder.Tie as tie
-use Rattle.engine.proofs.regs.Regs.reorder.Reads as reads
-use Rattle.engine.proofs.regs.Regs.reorder.Lts as lts
-use Rattle.engine.proofs.image.count_of.Reads as count-of-reads
-use Rattle.engine.proofs.matching.move_last.Reads as move-last-reads
-use Rattle.engine.proofs.regs.Regs.charge_time.Reads as charge-time-reads
 
--- src/matching.rt:269:19
 add-next : tie.Need-add-next
 add-next c = search needs
 
--- src/matching.rt:270:13
 charge-time-requires : tie.Need-charge-time-requires
 charge-time-requires c κs = search needs
 
--- src/matching.rt:272:17
 count-of-requires : tie.Need-count-of-requires
 count-of-requires c κs = search needs
 
--- src/matching.rt:274:28
 mul-from : tie.Need-mul-from
 mul-from c = search needs
 
--- src/matching.rt:274:28
 shared-slice-read-from : tie.Need-shared-slice-read-from
 shared-slice-read-from c =
     let start = c .before .before .before .before .before .before .before .before .before .before .before in
     let l = start .pre .1 .1 .0 .orders-long in let n = start .pre .1 .0 .accepted .rulesets in omega (arith, l, n, start .pre .1 .1 .1 .1)
 
--- src/matching.rt:275:34
 add-move-last : tie.Need-add-move-last
 add-move-last c =
     let start = c .before .before .before .before .before .before .before .before .before .before .before .before .before in
@@ -42,7 +31,6 @@ add-move-last c =
     let if2 = c .before .before .before .if2 in
     omega (arith, orders-room (start .pre .1 .0) (start .pre .1 .1 .0) (start .pre .1 .1 .1 .0) (start .args .self .rs) (start .pre .1 .1 .1 .1), count-of .ensures .0, if2 .taken)
 
--- src/matching.rt:275:50
 add-move-last-2 : tie.Need-add-move-last-2
 add-move-last-2 c =
     let start = c .before .before .before .before .before .before .before .before .before .before .before .before .before in
@@ -50,7 +38,6 @@ add-move-last-2 c =
     let if2 = c .before .before .before .if2 in
     omega (arith, orders-room (start .pre .1 .0) (start .pre .1 .1 .0) (start .pre .1 .1 .1 .0) (start .args .self .rs) (start .pre .1 .1 .1 .1), count-of .ensures .0, if2 .taken)
 
--- src/matching.rt:275:17
 move-last-requires : tie.Need-move-last-requires
 move-last-requires c κs =
     let start = c .before .before .before .before .before .before .before .before .before .before .before .before .before in
@@ -58,11 +45,9 @@ move-last-requires c κs =
     let if2 = c .before .before .before .if2 in
     omega (arith, orders-room (start .pre .1 .0) (start .pre .1 .1 .0) (start .pre .1 .1 .1 .0) (start .args .self .rs) (start .pre .1 .1 .1 .1), count-of .ensures .0, if2 .taken)
 
--- src/matching.rt:259:5
 same-length : tie.Need-same-length
 same-length c = search needs
 
--- src/matching.rt:259:5
 returns : tie.Need-returns
 returns c =
     let charge-time = c .before .before .before .before .before .before .before .before .before .before .charge-time in
@@ -73,7 +58,6 @@ returns c =
     let move-last = c .before .before .move-last in
     λ st he wi. record { each = λ ws hs h m n. settle-yes (reorder-leads h wi _ _ _) _ _ (charge-time .ensures) (if1 .taken) (λ a b. record { stack = h .stack; heap = h .heap; wires = refl; order = reordered-moves h wi _ _ _ _ (orders-at (start .pre .1 .0) (start .pre .1 .1 .0) (start .pre .1 .1 .1 .0) (start .args .self .rs) (start .pre .1 .1 .1 .1)) (count-of .ensures .0) (if2 .taken) (move-last .ensures) }) }
 
--- src/matching.rt:259:5
 returns-2 : tie.Need-returns-2
 returns-2 c =
     let charge-time = c .before .before .before .before .charge-time in
@@ -82,7 +66,6 @@ returns-2 c =
     let if2 = c .if2 in
     λ st he wi. record { each = λ ws hs h m n. settle-yes (reorder-leads h wi _ _ _) _ _ (charge-time .ensures) (if1 .taken) (λ a b. record { stack = h .stack; heap = h .heap; wires = refl; order = reordered-stays h wi _ _ (rw (count-of .ensures .0) at (if2 .left)) }) }
 
--- src/matching.rt:259:5
 returns-3 : tie.Need-returns-3
 returns-3 c =
     let charge-time = c .before .charge-time in

@@ -3,22 +3,15 @@ use Rattle.engine.proofs.Turning.{settled}
 use borrow.Author.Needs.{needs}
 use Rattle.engine.proofs.regs.Regs.start_matches.Statement.{statement}
 use Rattle.engine.proofs.regs.Regs.start_matches.Tie as tie
-use Rattle.engine.proofs.regs.Regs.start_matches.Reads as reads
-use Rattle.engine.proofs.regs.Regs.start_matches.Lts as lts
-use Rattle.engine.proofs.image.rule_at.Reads as rule-at-reads
-use Rattle.engine.proofs.regs.Regs.charge_time.Reads as charge-time-reads
 
--- src/matching.rt:80:9
 rule-at-requires : tie.Need-rule-at-requires
 rule-at-requires c κs =
     let start = c .before .before .before .before in
     (start .pre .1 .0, (start .pre .1 .1 .0, (start .pre .1 .1 .1 .0, (start .pre .1 .1 .1 .1, start .pre .1 .0 .accepted .some-rule _ (start .pre .1 .1 .1 .1)))))
 
--- src/matching.rt:81:9
 charge-time-requires : tie.Need-charge-time-requires
 charge-time-requires c κs = search needs
 
--- src/matching.rt:71:5
 returns : tie.Need-returns
 returns c =
     let rule-at = c .before .rule-at in
