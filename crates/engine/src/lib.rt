@@ -1,6 +1,9 @@
 // The machine of document 01 on lent slices.
 mod moves;
+mod placing;
 mod regs;
+mod spreading;
+mod wiring;
 
 // "an ending carries its own detail inside the returned record"
 pub enum Ending {
