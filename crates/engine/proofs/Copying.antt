@@ -1,19 +1,19 @@
 -- Copying a value from a wire to the heap: stores in a row, what the wire has where a cell or a list of fields begins, and
 -- what CopyInput leads to.
 use mathlib.Core.Path.{_≡_, refl, sym, ap, _∙_, subst}
-use mathlib.Core.Bool.{Bool, true, false, not}
+use mathlib.Core.Bool.{false, not}
 use mathlib.Core.List.{List, [], _∷_, _++_, map, append-assoc, append-nil}
-use Prim.Native.Nat.{ℕ, zero, suc, _+_, _-_, _*_, _^_, _≤_, _<_}
+use Prim.Native.Nat.{ℕ, suc, _+_, _-_, _*_, _^_, _≤_, _<_}
 use native.Mathlib.Omega.{arith}
 use native.Mathlib.Nat.{add-zero, ne-of-gt}
 use native.Mathlib.Numerals.{add-one}
 use lib.Dec.{T, eqb, eqb→eq, T-not, not-T}
 use lib.ListN.{length, getD, set, take, drop, length-append, length-drop, length-map, length-set, take-append-drop}
-use lib.Seq.{sets, set-comm, length-sets, getD-take, getD-drop, length-take-le, drop-drop, drop-append-seam, append-snoc}
-use Rattle.limits.specs.Machine.{Act, ends, goes}
-use Rattle.hume.specs.Words.{Word, null, none, ref, raw, bits, noneHeader, tupleHeader}
-use Rattle.hume.specs.Values.{Value, nothing, atom, block, Values, end, more, count, blockOk, good, goods, prefix, prefixes, placed, placedAll, refers, refersAll, row, first, isNothing, wireCount, wireWords, isEmpty, wireOk}
-use Rattle.hume.specs.State.{State, End, fault, Deed, locals, need, hp, next, leaving}
+use lib.Seq.{sets, set-comm, getD-take, getD-drop, length-take-le, drop-drop, drop-append-seam, append-snoc}
+use Rattle.limits.specs.Machine.{goes}
+use Rattle.hume.specs.Words.{Word, none, ref, raw, bits, noneHeader, tupleHeader}
+use Rattle.hume.specs.Values.{Value, nothing, atom, block, Values, end, more, count, blockOk, good, goods, prefix, prefixes, placed, placedAll, refers, refersAll, row, first, isNothing, wireCount, wireWords, isEmpty}
+use Rattle.hume.specs.State.{State, fault, hp, next, leaving}
 use Rattle.hume.specs.Instructions.{CopyInput}
 use Rattle.laws.specs.Sizes.{size, sizes, heads}
 use Rattle.laws.specs.Accepted.{WiresFit}
@@ -21,8 +21,8 @@ use Rattle.hume.specs.Image.{Program}
 use Rattle.laws.proofs.Tests.{and-left, and-right, eqb-of}
 use Rattle.laws.proofs.Words.{bits-raw}
 use Rattle.laws.proofs.Deeds.{need-yes, need-no}
-use Rattle.laws.proofs.Values.{BlockHeader, atom-header, block-header, refers-count, length-placed, length-placedAll, prefix-least, One, one-value, size-heads, size-most, heads-at-none, heads-at-cell, heads-at-end}
-use Rattle.laws.proofs.Wires.{FullWire, wire-full}
+use Rattle.laws.proofs.Values.{atom-header, block-header, length-placed, length-placedAll, prefix-least, one-value, size-heads, size-most, heads-at-none, heads-at-cell, heads-at-end}
+use Rattle.laws.proofs.Wires.{wire-full}
 use Rattle.engine.specs.Fits.{Fit}
 use Rattle.engine.specs.Copies.{WireFits, CellHere, CellPlaced, FieldsHere, FieldsPlaced}
 use Rattle.engine.specs.Turns.{Bears, core, Holds, halt, Buffers, Turned, priced}

@@ -1,7 +1,7 @@
 -- What the instructions that empty and test wires lead to, and the kinds of words by their 32 bits.
 use mathlib.Core.Path.{_≡_, refl, sym, ap, _∙_, subst}
-use mathlib.Core.Bool.{Bool, true, false, not, _&&_, _||_}
-use mathlib.Core.List.{List, [], _∷_, _++_, append-nil}
+use mathlib.Core.Bool.{false, not}
+use mathlib.Core.List.{List, [], append-nil}
 use Prim.Native.Nat.{ℕ, zero, suc, _+_, _-_, _*_, _^_, _≤_, _<_}
 use native.Mathlib.Omega.{arith}
 use native.Mathlib.Nat.{not-suc-le-zero}
@@ -10,12 +10,12 @@ use native.Mathlib.Decide.{ℕ-discrete}
 use lib.Dec.{T, leb, eqb, leb→le, le→leb, eqb→eq, T-not, not-T}
 use lib.ListN.{length, getD, set, replicate, length-replicate, getD-replicate}
 use lib.Seq.{paste, paste-suc}
-use Rattle.limits.specs.Machine.{Act, ends, goes}
+use Rattle.limits.specs.Machine.{ends, goes}
 use Rattle.hume.specs.Tests.{pick, all}
-use Rattle.hume.specs.Words.{Word, null, none, bits, isRef, isNone, isValue}
+use Rattle.hume.specs.Words.{Word, null, bits, isRef, isNone, isValue}
 use Rattle.hume.specs.Image.{Program}
 use Rattle.hume.specs.Values.{wireCount, isEmpty, setWire}
-use Rattle.hume.specs.State.{State, End, fault, blocked, Deed, values, locals, need, next, turns, rewires, below, downward}
+use Rattle.hume.specs.State.{State, fault, blocked, Deed, values, locals, need, next, turns, below, downward}
 use Rattle.hume.specs.Instructions.{Consume, MaybeConsume, outputAt, holdsUp, checked, CheckOutputs}
 use Rattle.hume.specs.Machine.{charged}
 use Rattle.laws.specs.Sizes.{Small}
@@ -24,7 +24,7 @@ use Rattle.laws.proofs.Words.{ValueWord, refers, nothing, value-word, none-is}
 use Rattle.laws.proofs.Deeds.{need-yes, need-no}
 use Rattle.engine.specs.Fits.{Fit}
 use Rattle.engine.specs.Copies.{ValueBits, FirstOther, Stuck, FirstStuck}
-use Rattle.engine.specs.Turns.{Bears, Smalls, plain, core, Holds, halt, Buffers, Turned, priced}
+use Rattle.engine.specs.Turns.{Smalls, plain, core, Holds, halt, Buffers, Turned, priced}
 use Rattle.engine.specs.declared.Ending.the-variants as ending
 use Rattle.engine.specs.declared.regs.Limits.{Limits}
 use Rattle.engine.specs.declared.regs.Regs.{Regs}
@@ -56,6 +56,11 @@ unfolding charged
 lead-wired cost s next p a b c =
     let z : cost + 0 ≡ cost = omega arith in
     record { same = rw (p, append-nil, z); sp = a; hp = b; lp = c }
+
+-- the two that empty a wire are one
+pub maybe-is : (a : ℕ) (s : State) → MaybeConsume a s ≡ Consume a s
+unfolding MaybeConsume
+maybe-is a s = refl
 
 -- ---- the kinds of words, from their 32 bits
 

@@ -1,19 +1,17 @@
 -- Reading a value from the heap: what the bits of a word, of an object and of a list of fields spread out to.
-use mathlib.Core.Path.{_≡_, refl, sym, ap, _∙_, subst}
+use mathlib.Core.Path.{_≡_, refl, sym, ap, _∙_}
 use mathlib.Core.Bool.{Bool, true, false}
 use mathlib.Core.List.{List, [], _∷_, _++_}
 use Prim.Native.Nat.{ℕ, zero, suc, _+_, _-_, _*_, _^_, _≤_, _<_, min}
 use native.Mathlib.Omega.{arith}
 use native.Mathlib.Nat.{not-suc-le-zero, le-of-suc-le-suc}
 use native.Mathlib.Numerals.{add-one}
-use native.Mathlib.Decide.{decLe}
 use borrow.Author.Tests.{lt-ltb, le-ltb}
-use lib.Dec.{T, ltb}
+use lib.Dec.{ltb}
 use lib.ListN.{length, getD, set, length-append}
 use lib.Seq.{sets, ext-getD}
 use Rattle.hume.specs.Words.{Word, null, none, ref, raw, bits, isRef, noneHeader, tupleHeader}
 use Rattle.hume.specs.Values.{fieldsBy, bodyBy, wordBy, spreadTo, spread}
-use Rattle.laws.specs.Sizes.{Small}
 use Rattle.laws.specs.Whole.{Whole, Field, Held, none-held, ref-held}
 use Rattle.laws.proofs.Words.{none-is}
 use Rattle.laws.proofs.Small.{raw-bits}

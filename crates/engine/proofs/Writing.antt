@@ -1,29 +1,30 @@
 -- What Write leads to.
 use mathlib.Core.Path.{_≡_, refl, sym, ap, _∙_, subst}
-use mathlib.Core.Bool.{Bool, true, false, not, _||_}
-use mathlib.Core.List.{List, [], _∷_, _++_, append-assoc}
-use Prim.Native.Nat.{ℕ, zero, suc, _+_, _-_, _*_, _^_, _≤_, _<_, min}
+use mathlib.Core.Bool.{Bool, false}
+use mathlib.Core.List.{List, _∷_, _++_, append-assoc}
+use Prim.Native.Nat.{ℕ, suc, _+_, _-_, _*_, _^_, _≤_, _<_}
 use native.Mathlib.Omega.{arith}
 use native.Mathlib.Numerals.{add-one}
 use lib.Dec.{T, leb, eqb, leb→le, le→leb, eqb→eq}
-use lib.ListN.{length, getD, set, take, drop, replicate, length-drop, length-take, length-replicate, getD-replicate, take-append-drop}
-use lib.Seq.{sets, sets-eq, getD-take, getD-drop, length-take-le, drop-drop, ext-getD}
-use Rattle.limits.specs.Machine.{Act, ends, goes}
+use lib.ListN.{length, getD, set, take, drop, replicate, length-append, length-drop, length-replicate, getD-replicate, take-append-drop}
+use lib.Seq.{sets, sets-eq, getD-append-add, getD-take, getD-drop, length-take-le, drop-drop, ext-getD}
 use Rattle.hume.specs.Tests.{all}
-use Rattle.hume.specs.Words.{Word, null, none, raw, bits, isNone, isValue}
+use Rattle.hume.specs.Words.{Word, null, link, raw, bits, isRef, isNone, isValue}
 use Rattle.hume.specs.Image.{Program}
-use Rattle.hume.specs.Values.{spread, wireCount, isEmpty, setWire, oneValue, wireWords, wireOk}
-use Rattle.hume.specs.State.{State, End, fault, Deed, values, need, stacks, rewires, below, without}
+use Rattle.hume.specs.Values.{spread, wireCount, isEmpty, setWire, wireOk}
+use Rattle.hume.specs.State.{State, fault, Deed, locals, values, need, stacks, below, without}
 use Rattle.hume.specs.Instructions.{outputAt, Write}
 use Rattle.laws.specs.Sizes.{Small}
-use Rattle.laws.specs.Whole.{Held}
+use Rattle.laws.specs.Accepted.{WiresFit}
+use Rattle.laws.specs.Whole.{Held, none-held, ref-held}
+use Rattle.reach.specs.Sound.{Plain, Frames, Sound}
 use Rattle.laws.proofs.Tests.{and-left, and-right, eqb-of, pick-true, pick-false, all-at}
 use Rattle.laws.proofs.Words.{bits-raw}
 use Rattle.laws.proofs.Small.{small-raw, raw-bits}
 use Rattle.laws.proofs.Deeds.{need-yes, need-no}
 use Rattle.engine.specs.Fits.{Fit}
-use Rattle.engine.specs.Copies.{WireFits, ValueBits, Readable, spreads, HeldWord, putting, TopHeld, CellFits, Written}
-use Rattle.engine.specs.Turns.{Bears, Smalls, core, Holds, halt, Buffers, Turned, priced}
+use Rattle.engine.specs.Copies.{WireFits, ValueBits, spreads, HeldWord, putting, TopHeld}
+use Rattle.engine.specs.Turns.{Smalls, core, Holds, halt, Buffers, Turned, priced}
 use Rattle.engine.specs.declared.Ending.the-variants as ending
 use Rattle.engine.specs.declared.regs.Limits.{Limits}
 use Rattle.engine.specs.declared.regs.Regs.{Regs}
@@ -31,7 +32,7 @@ use Rattle.engine.specs.declared.regs.Turn.{Turn}
 use Rattle.engine.proofs.Turning.{Leads, stops, lead-still, values-are, reads-below}
 use Rattle.engine.proofs.Areas.{locals-take}
 use Rattle.engine.proofs.Moving.{stacked}
-use Rattle.engine.proofs.Copying.{set-sets}
+use Rattle.engine.proofs.Copying.{set-sets, wire-fits}
 use Rattle.engine.proofs.Reading.{bears-one}
 use Rattle.engine.proofs.Outputs.{lead-wired, value-bits, bits-value, none-bits, bits-none}
 
@@ -165,7 +166,7 @@ module _ {lim : Limits} {r : Regs} (f : Fit lim r) {st he : List ℕ} {ws hs : L
   unfolding without
   less l = ap (λ (n : ℕ). n - 1) (h .sp) ∙ sym (length-take-le (length ws - 1) ws (omega arith))
 
-  same-lp : r .lp < r .sp → r .lp ≡ r .fp + Rattle.hume.specs.State.locals (r .fp) (without 1 ws)
+  same-lp : r .lp < r .sp → r .lp ≡ r .fp + locals (r .fp) (without 1 ws)
   unfolding without
   same-lp l =
       h .lp
@@ -253,3 +254,40 @@ module _ {lim : Limits} {r : Regs} (f : Fit lim r) {st he : List ℕ} {ws hs : L
           ∙ need-yes (isValue (below ws 0)) 2 _ (value-top v)
           ∙ pick-false (isNone (below ws 0)) (stacks s (without 1 ws)) _ (λ t. n (top-bits ∙ bits-none (below ws 0) t))
           ∙ ap (λ (i : ℕ). putting (i + a) (below ws 0) s) p
+
+-- ---- what every state that is reached gives
+
+plain-held : {P : Program} {hs : List Word} {w : Word} → Plain P hs w → T (isValue w) → Held hs w
+unfolding isValue isRef isNone
+plain-held (Plain.isNull e) t = absurd (rw e at t)
+plain-held (Plain.isRef p e o) t = ref-held p e o
+plain-held (Plain.isNone e) t = none-held e
+plain-held (Plain.isRet p e h) t = absurd (rw e at t)
+plain-held (Plain.isRules a b e h k) t = absurd (rw e at t)
+plain-held (Plain.isStatic p e) t = absurd (rw e at t)
+
+frames-plain : {P : Program} {hs ws : List Word} {fp : ℕ} → Frames P hs ws fp → (k : ℕ) → k + fp < length ws
+    → Plain P hs (below ws k)
+unfolding below
+frames-plain (Frames.bottom ws fp e each) k h = each .each (length ws - (k + 1))
+frames-plain {P} {hs} (Frames.frame ws fp lower upper prev n e b a c each d g) k h =
+    let j = length ws - (k + 1) - fp in
+    let l : length ws ≡ length lower + suc (length upper) =
+    ap (λ (x : List Word). length x) e ∙ length-append lower (link prev n ∷ upper) in
+    let i : length ws - (k + 1) ≡ length lower + suc j = omega arith in
+    let z : getD ws (length ws - (k + 1)) null ≡ getD upper j null =
+    ap (λ (x : ℕ). getD ws x null) i
+    ∙ ap (λ (x : List Word). getD x (length lower + suc j) null) e
+    ∙ getD-append-add lower (link prev n ∷ upper) (suc j) null in
+    subst (λ (w : Word). Plain P hs w) (sym z) (each .each j)
+
+-- what Write asks of the word on top
+pub top-sound : {P : Program} {lim : Limits} {r : Regs} {st he wi or : List ℕ} {ws hs : List Word} {d : Bool}
+    → Sound P (core r ws hs wi or d) → Fit lim r → Holds r st he ws hs → Smalls ws → Smalls hs → TopHeld r st he
+top-sound s f h m n =
+    top-held h n m
+    (λ l t. plain-held (frames-plain (s .frames) 0 (let a = f .fp in let b = h .sp in omega arith)) t)
+
+-- what the others ask of a wire
+pub wire-room : (P : Program) (w : List ℕ) (i : ℕ) → WiresFit P w → i < P .inputs + P .outputs → 65 * i + 65 ≤ length w
+wire-room P w i f h = wire-inside (wire-fits P w i f h)

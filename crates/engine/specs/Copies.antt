@@ -1,7 +1,7 @@
 -- Copies between a wire and the heap: what stands where one begins, and what it leaves.
 use mathlib.Core.Path.{_≡_}
 use mathlib.Core.List.{List, _++_, map}
-use Prim.Native.Nat.{ℕ, _+_, _-_, _*_, _^_, _≤_, _<_, min}
+use Prim.Native.Nat.{ℕ, _+_, _-_, _*_, _^_, _≤_, _<_}
 use lib.Dec.{T, leb}
 use lib.ListN.{length, getD, drop}
 use lib.Seq.{sets}

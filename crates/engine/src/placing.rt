@@ -44,20 +44,32 @@ pub(crate) fn place_cell(wires: &[u32], i: usize, heap: &mut [u32], hp: usize) -
 {
     let h = wires[i];
     if h == 458752 {
-        return Placed { next: i + 1, top: hp, word: 536870912 };
+        return Placed {
+            next: i + 1,
+            top: hp,
+            word: 536870912,
+        };
     }
     let x = wires[i + 1];
     if h < 262144 {
         heap[hp] = h;
         heap[hp + 1] = x;
-        return Placed { next: i + 2, top: hp + 2, word: 268435456 + hp as u32 };
+        return Placed {
+            next: i + 2,
+            top: hp + 2,
+            word: 268435456 + hp as u32,
+        };
     }
     let n = x as usize;
     let fields = place_fields(wires, i + 2, n, 2, heap, hp);
     let at = fields.top;
     heap[at] = h;
     heap[at + 1] = x;
-    Placed { next: fields.next, top: at + 2 + n, word: 268435456 + at as u32 }
+    Placed {
+        next: fields.next,
+        top: at + 2 + n,
+        word: 268435456 + at as u32,
+    }
 }
 
 // The n fields from i on; the reference to the first goes j places past the words of the last, the next one follows it.

@@ -88,7 +88,15 @@ impl Regs {
     }
 
     // "38 CheckOutputs: output i is the value i below the top"
-    pub(crate) fn check_outputs(self, lim: Limits, cost: usize, inputs: usize, outputs: usize, stack: &[u32], wires: &[u32]) -> Turn
+    pub(crate) fn check_outputs(
+        self,
+        lim: Limits,
+        cost: usize,
+        inputs: usize,
+        outputs: usize,
+        stack: &[u32],
+        wires: &[u32],
+    ) -> Turn
         requires { ⌜ Fit lim self ⌝ }
         requires { ⌜ lim .stack ≤ length (now stack) ⌝ }
         requires { ⌜ outputs ≤ 8 ⌝ }
@@ -113,7 +121,15 @@ impl Regs {
     }
 
     // "35 CopyInput a [+1]": "CopyInput costs the words it places"
-    pub(crate) fn copy_input(self, lim: Limits, cost: usize, a: usize, stack: &mut [u32], heap: &mut [u32], wires: &[u32]) -> Turn
+    pub(crate) fn copy_input(
+        self,
+        lim: Limits,
+        cost: usize,
+        a: usize,
+        stack: &mut [u32],
+        heap: &mut [u32],
+        wires: &[u32],
+    ) -> Turn
         requires { ⌜ Fit lim self ⌝ }
         requires { ⌜ lim .stack ≤ length (now stack) ⌝ }
         requires { ⌜ lim .heap ≤ length (now heap) ⌝ }
@@ -141,7 +157,16 @@ impl Regs {
     }
 
     // "39 Write a [-1]: None writes nothing"
-    pub(crate) fn write(self, lim: Limits, cost: usize, a: usize, inputs: usize, stack: &[u32], heap: &[u32], wires: &mut [u32]) -> Turn
+    pub(crate) fn write(
+        self,
+        lim: Limits,
+        cost: usize,
+        a: usize,
+        inputs: usize,
+        stack: &[u32],
+        heap: &[u32],
+        wires: &mut [u32],
+    ) -> Turn
         requires { ⌜ Fit lim self ⌝ }
         requires { ⌜ lim .stack ≤ length (now stack) ⌝ }
         requires { ⌜ TopHeld self (now stack) (now heap) ⌝ }
@@ -170,7 +195,15 @@ impl Regs {
 
     // The word w to the wire o. Whether its value fits 64 words is known before anything is written, so that fault 6 leaves
     // every buffer as it was; the words after those written are zeros already, since the wire was empty.
-    fn put(self, lim: Limits, cost: usize, w: u32, o: usize, heap: &[u32], wires: &mut [u32]) -> Turn
+    fn put(
+        self,
+        lim: Limits,
+        cost: usize,
+        w: u32,
+        o: usize,
+        heap: &[u32],
+        wires: &mut [u32],
+    ) -> Turn
         requires { ⌜ Fit lim self ⌝ }
         requires { ⌜ self .lp < self .sp ⌝ }
         requires { ⌜ HeldWord self (now heap) w ⌝ }

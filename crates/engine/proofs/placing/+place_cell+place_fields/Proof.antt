@@ -1,7 +1,6 @@
 use mathlib.Core.Path.{_∙_}
 use Prim.Native.Nat.{_+_, _-_, _*_, _≤_}
 use native.Mathlib.Omega.{arith}
-use borrow.Author.Needs.{needs}
 use lib.ListN.{length, length-set}
 use Rattle.engine.proofs.Copying.{cell-inside, cell-inside-2, cell-none, cell-two, cell-atom, cell-fields, cell-block, fields-none, fields-first, fields-later, fields-placed, fields-fall}
 use Prim.Native.Nat.{ℕ, _<_}
@@ -122,7 +121,10 @@ place-cell-mul-heap : (t : ℕ) → place-cell-lts.Need-mul-heap (
 place-cell-mul-heap t c =
     let start = c .before .before .before .before .before .before in
     let if2 = c .if2 in
-    let e = cell-two (start .pre .1) (if2 .taken) in let f = (start .pre .1) .fits in let l = (start .pre .1) .low in omega (arith, start .good)
+    let e = cell-two (start .pre .1) (if2 .taken) in
+    let f = (start .pre .1) .fits in
+    let l = (start .pre .1) .low in
+    omega (arith, start .good)
 
 -- src/placing.rt:51:9
 place-cell-slice-write-heap : (t : ℕ) → place-cell-lts.Need-slice-write-heap (
@@ -132,7 +134,10 @@ place-cell-slice-write-heap : (t : ℕ) → place-cell-lts.Need-slice-write-heap
 place-cell-slice-write-heap t c =
     let start = c .before .before .before .before .before .before in
     let if2 = c .if2 in
-    let e = cell-two (start .pre .1) (if2 .taken) in let f = (start .pre .1) .fits in let l = (start .pre .1) .low in omega (arith, start .good)
+    let e = cell-two (start .pre .1) (if2 .taken) in
+    let f = (start .pre .1) .fits in
+    let l = (start .pre .1) .low in
+    omega (arith, start .good)
 
 -- src/placing.rt:52:14
 place-cell-add-heap : (t : ℕ) → place-cell-lts.Need-add-heap (
@@ -142,7 +147,10 @@ place-cell-add-heap : (t : ℕ) → place-cell-lts.Need-add-heap (
 place-cell-add-heap t c =
     let start = c .before .before .before .before .before .before in
     let if2 = c .if2 in
-    let e = cell-two (start .pre .1) (if2 .taken) in let f = (start .pre .1) .fits in let l = (start .pre .1) .low in omega (arith, start .good)
+    let e = cell-two (start .pre .1) (if2 .taken) in
+    let f = (start .pre .1) .fits in
+    let l = (start .pre .1) .low in
+    omega (arith, start .good)
 
 -- src/placing.rt:52:9
 place-cell-mul-heap-2 : (t : ℕ) → place-cell-lts.Need-mul-heap-2 (
@@ -152,7 +160,10 @@ place-cell-mul-heap-2 : (t : ℕ) → place-cell-lts.Need-mul-heap-2 (
 place-cell-mul-heap-2 t c =
     let start = c .before .before .before .before .before .before in
     let if2 = c .if2 in
-    let e = cell-two (start .pre .1) (if2 .taken) in let f = (start .pre .1) .fits in let l = (start .pre .1) .low in omega (arith, start .good)
+    let e = cell-two (start .pre .1) (if2 .taken) in
+    let f = (start .pre .1) .fits in
+    let l = (start .pre .1) .low in
+    omega (arith, start .good)
 
 -- src/placing.rt:52:9
 place-cell-slice-write-heap-2 : (t : ℕ) → place-cell-lts.Need-slice-write-heap-2 (
@@ -162,7 +173,10 @@ place-cell-slice-write-heap-2 : (t : ℕ) → place-cell-lts.Need-slice-write-he
 place-cell-slice-write-heap-2 t c =
     let start = c .before .before .before .before .before .before in
     let if2 = c .if2 in
-    let e = cell-two (start .pre .1) (if2 .taken) in let f = (start .pre .1) .fits in let l = (start .pre .1) .low in simp length-set (omega (arith, start .good))
+    let e = cell-two (start .pre .1) (if2 .taken) in
+    let f = (start .pre .1) .fits in
+    let l = (start .pre .1) .low in
+    simp length-set (omega (arith, start .good))
 
 -- src/placing.rt:53:31
 place-cell-add-t17 : (t : ℕ) → place-cell-lts.Need-add-t17 (
@@ -182,7 +196,10 @@ place-cell-add-t19 : (t : ℕ) → place-cell-lts.Need-add-t19 (
 place-cell-add-t19 t c =
     let start = c .before .before .before .before .before .before in
     let if2 = c .if2 in
-    let e = cell-two (start .pre .1) (if2 .taken) in let f = (start .pre .1) .fits in let l = (start .pre .1) .low in omega (arith, start .good)
+    let e = cell-two (start .pre .1) (if2 .taken) in
+    let f = (start .pre .1) .fits in
+    let l = (start .pre .1) .low in
+    omega (arith, start .good)
 
 -- src/placing.rt:53:69
 place-cell-cast-t21 : (t : ℕ) → place-cell-lts.Need-cast-t21 (
@@ -192,7 +209,10 @@ place-cell-cast-t21 : (t : ℕ) → place-cell-lts.Need-cast-t21 (
 place-cell-cast-t21 t c =
     let start = c .before .before .before .before .before .before in
     let if2 = c .if2 in
-    let e = cell-two (start .pre .1) (if2 .taken) in let f = (start .pre .1) .fits in let l = (start .pre .1) .low in omega (arith, start .good)
+    let e = cell-two (start .pre .1) (if2 .taken) in
+    let f = (start .pre .1) .fits in
+    let l = (start .pre .1) .low in
+    omega (arith, start .good)
 
 -- src/placing.rt:53:57
 place-cell-add-t22 : (t : ℕ) → place-cell-lts.Need-add-t22 (
@@ -202,7 +222,10 @@ place-cell-add-t22 : (t : ℕ) → place-cell-lts.Need-add-t22 (
 place-cell-add-t22 t c =
     let start = c .before .before .before .before .before .before in
     let if2 = c .if2 in
-    let e = cell-two (start .pre .1) (if2 .taken) in let f = (start .pre .1) .fits in let l = (start .pre .1) .low in omega (arith, start .good)
+    let e = cell-two (start .pre .1) (if2 .taken) in
+    let f = (start .pre .1) .fits in
+    let l = (start .pre .1) .low in
+    omega (arith, start .good)
 
 -- src/placing.rt:53:9
 place-cell-same-length : (t : ℕ) → place-cell-lts.Need-same-length (
@@ -264,7 +287,11 @@ place-cell-mul-heap-3 t c =
     let if1 = c .before .before .before .before .before .before .if1 in
     let if2 = c .before .before .before .before .if2 in
     let place-fields = c .before .before .place-fields in
-    let e = cell-block (start .pre .1) (if1 .left) (if2 .left) (place-fields .ensures) .top-is in let len = place-fields .kept .1 .1 .1 .1 .0 in let f = (start .pre .1) .fits in let l = (start .pre .1) .low in omega (arith, start .good)
+    let e = cell-block (start .pre .1) (if1 .left) (if2 .left) (place-fields .ensures) .top-is in
+    let len = place-fields .kept .1 .1 .1 .1 .0 in
+    let f = (start .pre .1) .fits in
+    let l = (start .pre .1) .low in
+    omega (arith, start .good)
 
 -- src/placing.rt:58:5
 place-cell-slice-write-heap-3 : (t : ℕ) → place-cell-lts.Need-slice-write-heap-3 (
@@ -276,7 +303,11 @@ place-cell-slice-write-heap-3 t c =
     let if1 = c .before .before .before .before .before .before .if1 in
     let if2 = c .before .before .before .before .if2 in
     let place-fields = c .before .before .place-fields in
-    let e = cell-block (start .pre .1) (if1 .left) (if2 .left) (place-fields .ensures) .top-is in let len = place-fields .kept .1 .1 .1 .1 .0 in let f = (start .pre .1) .fits in let l = (start .pre .1) .low in omega (arith, start .good)
+    let e = cell-block (start .pre .1) (if1 .left) (if2 .left) (place-fields .ensures) .top-is in
+    let len = place-fields .kept .1 .1 .1 .1 .0 in
+    let f = (start .pre .1) .fits in
+    let l = (start .pre .1) .low in
+    omega (arith, start .good)
 
 -- src/placing.rt:59:10
 place-cell-add-heap-2 : (t : ℕ) → place-cell-lts.Need-add-heap-2 (
@@ -288,7 +319,11 @@ place-cell-add-heap-2 t c =
     let if1 = c .before .before .before .before .before .before .if1 in
     let if2 = c .before .before .before .before .if2 in
     let place-fields = c .before .before .place-fields in
-    let e = cell-block (start .pre .1) (if1 .left) (if2 .left) (place-fields .ensures) .top-is in let len = place-fields .kept .1 .1 .1 .1 .0 in let f = (start .pre .1) .fits in let l = (start .pre .1) .low in omega (arith, start .good)
+    let e = cell-block (start .pre .1) (if1 .left) (if2 .left) (place-fields .ensures) .top-is in
+    let len = place-fields .kept .1 .1 .1 .1 .0 in
+    let f = (start .pre .1) .fits in
+    let l = (start .pre .1) .low in
+    omega (arith, start .good)
 
 -- src/placing.rt:59:5
 place-cell-mul-heap-4 : (t : ℕ) → place-cell-lts.Need-mul-heap-4 (
@@ -300,7 +335,11 @@ place-cell-mul-heap-4 t c =
     let if1 = c .before .before .before .before .before .before .if1 in
     let if2 = c .before .before .before .before .if2 in
     let place-fields = c .before .before .place-fields in
-    let e = cell-block (start .pre .1) (if1 .left) (if2 .left) (place-fields .ensures) .top-is in let len = place-fields .kept .1 .1 .1 .1 .0 in let f = (start .pre .1) .fits in let l = (start .pre .1) .low in omega (arith, start .good)
+    let e = cell-block (start .pre .1) (if1 .left) (if2 .left) (place-fields .ensures) .top-is in
+    let len = place-fields .kept .1 .1 .1 .1 .0 in
+    let f = (start .pre .1) .fits in
+    let l = (start .pre .1) .low in
+    omega (arith, start .good)
 
 -- src/placing.rt:59:5
 place-cell-slice-write-heap-4 : (t : ℕ) → place-cell-lts.Need-slice-write-heap-4 (
@@ -312,7 +351,11 @@ place-cell-slice-write-heap-4 t c =
     let if1 = c .before .before .before .before .before .before .if1 in
     let if2 = c .before .before .before .before .if2 in
     let place-fields = c .before .before .place-fields in
-    let e = cell-block (start .pre .1) (if1 .left) (if2 .left) (place-fields .ensures) .top-is in let len = place-fields .kept .1 .1 .1 .1 .0 in let f = (start .pre .1) .fits in let l = (start .pre .1) .low in simp length-set (omega (arith, start .good))
+    let e = cell-block (start .pre .1) (if1 .left) (if2 .left) (place-fields .ensures) .top-is in
+    let len = place-fields .kept .1 .1 .1 .1 .0 in
+    let f = (start .pre .1) .fits in
+    let l = (start .pre .1) .low in
+    simp length-set (omega (arith, start .good))
 
 -- src/placing.rt:60:38
 place-cell-add-t10 : (t : ℕ) → place-cell-lts.Need-add-t10 (
@@ -324,7 +367,11 @@ place-cell-add-t10 t c =
     let if1 = c .before .before .before .before .before .before .if1 in
     let if2 = c .before .before .before .before .if2 in
     let place-fields = c .before .before .place-fields in
-    let e = cell-block (start .pre .1) (if1 .left) (if2 .left) (place-fields .ensures) .top-is in let len = place-fields .kept .1 .1 .1 .1 .0 in let f = (start .pre .1) .fits in let l = (start .pre .1) .low in omega (arith, start .good)
+    let e = cell-block (start .pre .1) (if1 .left) (if2 .left) (place-fields .ensures) .top-is in
+    let len = place-fields .kept .1 .1 .1 .1 .0 in
+    let f = (start .pre .1) .fits in
+    let l = (start .pre .1) .low in
+    omega (arith, start .good)
 
 -- src/placing.rt:60:38
 place-cell-add-t15 : (t : ℕ) → place-cell-lts.Need-add-t15 (
@@ -336,7 +383,11 @@ place-cell-add-t15 t c =
     let if1 = c .before .before .before .before .before .before .if1 in
     let if2 = c .before .before .before .before .if2 in
     let place-fields = c .before .before .place-fields in
-    let e = cell-block (start .pre .1) (if1 .left) (if2 .left) (place-fields .ensures) .top-is in let len = place-fields .kept .1 .1 .1 .1 .0 in let f = (start .pre .1) .fits in let l = (start .pre .1) .low in omega (arith, start .good)
+    let e = cell-block (start .pre .1) (if1 .left) (if2 .left) (place-fields .ensures) .top-is in
+    let len = place-fields .kept .1 .1 .1 .1 .0 in
+    let f = (start .pre .1) .fits in
+    let l = (start .pre .1) .low in
+    omega (arith, start .good)
 
 -- src/placing.rt:60:68
 place-cell-cast-t12 : (t : ℕ) → place-cell-lts.Need-cast-t12 (
@@ -348,7 +399,11 @@ place-cell-cast-t12 t c =
     let if1 = c .before .before .before .before .before .before .if1 in
     let if2 = c .before .before .before .before .if2 in
     let place-fields = c .before .before .place-fields in
-    let e = cell-block (start .pre .1) (if1 .left) (if2 .left) (place-fields .ensures) .top-is in let len = place-fields .kept .1 .1 .1 .1 .0 in let f = (start .pre .1) .fits in let l = (start .pre .1) .low in omega (arith, start .good)
+    let e = cell-block (start .pre .1) (if1 .left) (if2 .left) (place-fields .ensures) .top-is in
+    let len = place-fields .kept .1 .1 .1 .1 .0 in
+    let f = (start .pre .1) .fits in
+    let l = (start .pre .1) .low in
+    omega (arith, start .good)
 
 -- src/placing.rt:60:56
 place-cell-add-t27 : (t : ℕ) → place-cell-lts.Need-add-t27 (
@@ -360,7 +415,11 @@ place-cell-add-t27 t c =
     let if1 = c .before .before .before .before .before .before .if1 in
     let if2 = c .before .before .before .before .if2 in
     let place-fields = c .before .before .place-fields in
-    let e = cell-block (start .pre .1) (if1 .left) (if2 .left) (place-fields .ensures) .top-is in let len = place-fields .kept .1 .1 .1 .1 .0 in let f = (start .pre .1) .fits in let l = (start .pre .1) .low in omega (arith, start .good)
+    let e = cell-block (start .pre .1) (if1 .left) (if2 .left) (place-fields .ensures) .top-is in
+    let len = place-fields .kept .1 .1 .1 .1 .0 in
+    let f = (start .pre .1) .fits in
+    let l = (start .pre .1) .low in
+    omega (arith, start .good)
 
 -- src/placing.rt:41:1
 place-cell-same-length-2 : (t : ℕ) → place-cell-lts.Need-same-length-2 (
@@ -439,7 +498,10 @@ place-fields-place-fields-requires t c κs =
     let place-cell = c .before .before .before .place-cell in
     let start = c .before .before .before .before .before .before .before .before in
     let if1 = c .before .before .before .before .before .if1 in
-    let same = (place-cell .kept .1 .1 .0) in let m = fields-fall (start .pre .1) (if1 .left) (place-cell .ensures) in let i = cell-inside (fields-first (start .pre .1) (if1 .left)) in (omega (arith, start .pre .0), rw same (fields-later (start .pre .1) (if1 .left) (place-cell .ensures)))
+    let same = (place-cell .kept .1 .1 .0) in
+    let m = fields-fall (start .pre .1) (if1 .left) (place-cell .ensures) in
+    let i = cell-inside (fields-first (start .pre .1) (if1 .left)) in
+    (omega (arith, start .pre .0), rw same (fields-later (start .pre .1) (if1 .left) (place-cell .ensures)))
 
 -- src/placing.rt:73:14
 place-fields-add-at : (t : ℕ) → place-fields-lts.Need-add-at (
@@ -453,7 +515,13 @@ place-fields-add-at t c =
     let if1 = c .before .before .before .before .before .before .before .before .before .if1 in
     let place-cell = c .before .before .before .before .before .before .before .place-cell in
     let place-fields = c .before .before .before .place-fields in
-    let e = fields-placed (start .pre .1) (if1 .left) (place-cell .ensures) (place-cell .kept .1 .1 .0) (place-fields .ensures) .top-is in let l₁ = (place-cell .kept .1 .1 .0) in let l₂ = (place-fields .kept .1 .1 .1 .1 .0) in let f = (start .pre .1) .fits in let l = (start .pre .1) .low in let nz : 1 ≤ start .args .n = omega (arith, (if1 .left)) in omega (arith, start .good)
+    let e = fields-placed (start .pre .1) (if1 .left) (place-cell .ensures) (place-cell .kept .1 .1 .0) (place-fields .ensures) .top-is in
+    let l₁ = (place-cell .kept .1 .1 .0) in
+    let l₂ = (place-fields .kept .1 .1 .1 .1 .0) in
+    let f = (start .pre .1) .fits in
+    let l = (start .pre .1) .low in
+    let nz : 1 ≤ start .args .n = omega (arith, (if1 .left)) in
+    omega (arith, start .good)
 
 -- src/placing.rt:74:5
 place-fields-mul-heap : (t : ℕ) → place-fields-lts.Need-mul-heap (
@@ -467,7 +535,13 @@ place-fields-mul-heap t c =
     let if1 = c .before .before .before .before .before .before .before .before .before .if1 in
     let place-cell = c .before .before .before .before .before .before .before .place-cell in
     let place-fields = c .before .before .before .place-fields in
-    let e = fields-placed (start .pre .1) (if1 .left) (place-cell .ensures) (place-cell .kept .1 .1 .0) (place-fields .ensures) .top-is in let l₁ = (place-cell .kept .1 .1 .0) in let l₂ = (place-fields .kept .1 .1 .1 .1 .0) in let f = (start .pre .1) .fits in let l = (start .pre .1) .low in let nz : 1 ≤ start .args .n = omega (arith, (if1 .left)) in omega (arith, start .good)
+    let e = fields-placed (start .pre .1) (if1 .left) (place-cell .ensures) (place-cell .kept .1 .1 .0) (place-fields .ensures) .top-is in
+    let l₁ = (place-cell .kept .1 .1 .0) in
+    let l₂ = (place-fields .kept .1 .1 .1 .1 .0) in
+    let f = (start .pre .1) .fits in
+    let l = (start .pre .1) .low in
+    let nz : 1 ≤ start .args .n = omega (arith, (if1 .left)) in
+    omega (arith, start .good)
 
 -- src/placing.rt:74:5
 place-fields-slice-write-heap : (t : ℕ) → place-fields-lts.Need-slice-write-heap (
@@ -481,7 +555,13 @@ place-fields-slice-write-heap t c =
     let if1 = c .before .before .before .before .before .before .before .before .before .if1 in
     let place-cell = c .before .before .before .before .before .before .before .place-cell in
     let place-fields = c .before .before .before .place-fields in
-    let e = fields-placed (start .pre .1) (if1 .left) (place-cell .ensures) (place-cell .kept .1 .1 .0) (place-fields .ensures) .top-is in let l₁ = (place-cell .kept .1 .1 .0) in let l₂ = (place-fields .kept .1 .1 .1 .1 .0) in let f = (start .pre .1) .fits in let l = (start .pre .1) .low in let nz : 1 ≤ start .args .n = omega (arith, (if1 .left)) in omega (arith, start .good)
+    let e = fields-placed (start .pre .1) (if1 .left) (place-cell .ensures) (place-cell .kept .1 .1 .0) (place-fields .ensures) .top-is in
+    let l₁ = (place-cell .kept .1 .1 .0) in
+    let l₂ = (place-fields .kept .1 .1 .1 .1 .0) in
+    let f = (start .pre .1) .fits in
+    let l = (start .pre .1) .low in
+    let nz : 1 ≤ start .args .n = omega (arith, (if1 .left)) in
+    omega (arith, start .good)
 
 -- src/placing.rt:64:1
 place-fields-same-length : (t : ℕ) → place-fields-lts.Need-same-length (

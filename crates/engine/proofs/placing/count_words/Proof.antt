@@ -1,7 +1,7 @@
 use mathlib.Core.Path.{_≡_}
 use Prim.Native.Nat.{_+_, _-_, _≤_}
 use native.Mathlib.Omega.{arith}
-use lib.ListN.{length, take, drop}
+use lib.ListN.{take, drop}
 use Rattle.laws.specs.Sizes.{heads}
 use Rattle.engine.proofs.Copying.{count-none, count-cell, count-end}
 use Rattle.engine.proofs.placing.count_words.Statement.{statement}
@@ -111,7 +111,9 @@ returns c =
     let start = c .before .before in
     let loop = c .before .loop in
     let loop-test = c .loop-test in
-    let e = count-end (start .args .wires .now) (start .args .from) (start .args .k) (loop .i) (loop .n) (start .pre .0) (loop-test .left) (loop .inv .2) in let o = start .pre .1 in omega arith
+    let e = count-end (start .args .wires .now) (start .args .from) (start .args .k) (loop .i) (loop .n) (start .pre .0) (loop-test .left) (loop .inv .2) in
+    let o = start .pre .1 in
+    omega arith
 
 pub count-words-spec : {M : Type 1} → statement M
 count-words-spec =

@@ -310,7 +310,8 @@ fields-length-fields-length-requires t c κs =
     let if1 = c .before .before .before .if1 in
     let cell-length = c .before .cell-length in
     let if2 = c .if2 in
-    let m = count-falls (start .pre .1 .0) (start .args .at) (if1 .left) (cell-length .ensures) (if2 .left) in (omega (arith, start .pre .0, if2 .left), (reads-later (start .pre .1 .0) (if1 .left), if2 .left))
+    let m = count-falls (start .pre .1 .0) (start .args .at) (if1 .left) (cell-length .ensures) (if2 .left) in
+    (omega (arith, start .pre .0, if2 .left), (reads-later (start .pre .1 .0) (if1 .left), if2 .left))
 
 -- src/spreading.rt:29:1
 fields-length-returns-3 : (t : ℕ) → fields-length-lts.Need-returns-3 (

@@ -388,7 +388,10 @@ write-fields-write-fields-requires t c κs =
     let write-cell = c .before .before .before .write-cell in
     let start = c .before .before .before .before .before .before .before .before .before in
     let if1 = c .before .before .before .before .before .before .if1 in
-    let s = (write-cell .kept .1 .1 .0) in let m = write-falls (start .pre .1) (if1 .left) (write-cell .ensures) in let i = fits-one (first-fits (start .pre .1) (if1 .left)) in (omega (arith, start .pre .0), later-fits (start .pre .1) (if1 .left) (write-cell .ensures) _ s)
+    let s = (write-cell .kept .1 .1 .0) in
+    let m = write-falls (start .pre .1) (if1 .left) (write-cell .ensures) in
+    let i = fits-one (first-fits (start .pre .1) (if1 .left)) in
+    (omega (arith, start .pre .0), later-fits (start .pre .1) (if1 .left) (write-cell .ensures) _ s)
 
 -- src/spreading.rt:66:1
 write-fields-same-length : (t : ℕ) → write-fields-lts.Need-same-length (

@@ -76,7 +76,8 @@ returns c =
     let loop = c .before .loop in
     let loop-test = c .loop-test in
     let start = c .before .before in
-    let e : loop .i ≡ 65 = omega (arith, loop-test .left, loop .inv .0) in loop .inv .2 ∙ ap (λ (k : ℕ). paste (start .args .wires .now) (start .args .at) (replicate 65 0) k) e
+    let e : loop .i ≡ 65 = omega (arith, loop-test .left, loop .inv .0) in
+    loop .inv .2 ∙ ap (λ (k : ℕ). paste (start .args .wires .now) (start .args .at) (replicate 65 0) k) e
 
 pub clear-wire-spec : {M : Type 1} → statement M
 clear-wire-spec =

@@ -1,9 +1,8 @@
-use mathlib.Core.Path.{_≡_}
 use Prim.Native.Nat.{ℕ, _+_, _-_, _≤_, _<_}
 use native.Mathlib.Omega.{arith}
 use native.Mathlib.Nat.{not-suc-le-zero}
 use borrow.Author.Count.{below-more}
-use lib.ListN.{length, getD}
+use lib.ListN.{getD}
 use Rattle.engine.specs.Copies.{ValueBits}
 use Rattle.engine.proofs.wiring.first_other.Statement.{statement}
 use Rattle.engine.proofs.wiring.first_other.Tie as tie

@@ -1,10 +1,8 @@
-use mathlib.Core.Path.{_≡_}
 use mathlib.Core.Logic.{⊎-elim}
-use Prim.Native.Nat.{ℕ, _+_, _-_, _*_, _≤_, _<_}
+use Prim.Native.Nat.{ℕ, _-_, _≤_, _<_}
 use native.Mathlib.Omega.{arith}
 use native.Mathlib.Nat.{not-suc-le-zero}
 use borrow.Author.Count.{below-more}
-use lib.ListN.{length, getD}
 use Rattle.engine.specs.Copies.{Stuck}
 use Rattle.engine.proofs.wiring.first_stuck.Statement.{statement}
 use Rattle.engine.proofs.wiring.first_stuck.Tie as tie

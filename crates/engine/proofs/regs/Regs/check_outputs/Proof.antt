@@ -43,7 +43,10 @@ returns-2 c =
     let first-other = c .before .before .first-other in
     let if2 = c .before .if2 in
     let halt2 = c .halt2 in
-    λ P he or e₁ e₂. record { each = λ ws hs h m n. check-other (start .pre .0) h _ _ P m _ e₂ _ _ (if1 .left) (first-other .ensures) (if2 .taken) (halt2 .ensures) }
+    λ P he or e₁ e₂. record {
+      each = λ ws hs h m n.
+          check-other (start .pre .0) h _ _ P m _ e₂ _ _ (if1 .left) (first-other .ensures) (if2 .taken) (halt2 .ensures);
+    }
 
 -- src/wiring.rt:104:13
 first-stuck-requires : tie.Need-first-stuck-requires
@@ -67,7 +70,10 @@ returns-3 c =
     let first-stuck = c .before .before .first-stuck in
     let if3 = c .before .if3 in
     let halt3 = c .halt3 in
-    λ P he or e₁ e₂. record { each = λ ws hs h m n. check-stuck (start .pre .0) h _ _ P m _ e₂ _ e₁ _ _ _ (if1 .left) (first-other .ensures) (if2 .left) (first-stuck .ensures) (if3 .taken) (halt3 .ensures) }
+    λ P he or e₁ e₂. record {
+      each = λ ws hs h m n.
+          check-stuck (start .pre .0) h _ _ P m _ e₂ _ e₁ _ _ _ (if1 .left) (first-other .ensures) (if2 .left) (first-stuck .ensures) (if3 .taken) (halt3 .ensures);
+    }
 
 -- src/wiring.rt:109:19
 add-next : tie.Need-add-next
@@ -87,7 +93,16 @@ returns-4 c =
     let first-stuck = c .before .before .before .first-stuck in
     let if3 = c .before .before .if3 in
     let charge-time = c .charge-time in
-    λ P he or e₁ e₂. record { each = λ ws hs h m n. settled (check-leads (start .pre .0) h _ _ P m _ e₂ _ e₁ _ _ _ (if1 .left) (first-other .ensures) (if2 .left) (first-stuck .ensures) (if3 .left)) _ (charge-time .ensures) (λ a b. record { stack = h .stack; heap = h .heap; wires = refl; order = refl }) }
+    λ P he or e₁ e₂. record {
+      each = λ ws hs h m n.
+          settled (check-leads (start .pre .0) h _ _ P m _ e₂ _ e₁ _ _ _ (if1 .left) (first-other .ensures) (if2 .left) (first-stuck .ensures) (if3 .left)) _ (charge-time .ensures)
+          (λ a b. record {
+            stack = h .stack;
+            heap = h .heap;
+            wires = refl;
+            order = refl;
+          });
+    }
 
 pub check-outputs-spec : {M : Type 1} → statement M
 check-outputs-spec =

@@ -36,7 +36,16 @@ returns c =
     let charge-time = c .before .before .before .before .before .charge-time in
     let if1 = c .before .before .before .before .if1 in
     let clear-wire = c .before .before .clear-wire in
-    λ st he or. record { each = λ ws hs h m n. settle-yes (consume-leads (start .pre .0) h _ or _ _) _ _ (charge-time .ensures) (if1 .taken) (λ a b. record { stack = h .stack; heap = h .heap; wires = clear-wire .ensures ∙ cleared (start .args .wires .now) (start .args .a); order = refl }) }
+    λ st he or. record {
+      each = λ ws hs h m n.
+          settle-yes (consume-leads (start .pre .0) h _ or _ _) _ _ (charge-time .ensures) (if1 .taken)
+          (λ a b. record {
+            stack = h .stack;
+            heap = h .heap;
+            wires = clear-wire .ensures ∙ cleared (start .args .wires .now) (start .args .a);
+            order = refl;
+          });
+    }
 
 -- src/wiring.rt:74:5
 returns-2 : tie.Need-returns-2
@@ -44,7 +53,10 @@ returns-2 c =
     let start = c .before .before .before .before in
     let charge-time = c .before .charge-time in
     let if1 = c .if1 in
-    λ st he or. record { each = λ ws hs h m n. settle-no (consume-leads (start .pre .0) h _ or _ (start .args .a)) _ (charge-time .ensures) (if1 .left) }
+    λ st he or. record {
+      each = λ ws hs h m n.
+          settle-no (consume-leads (start .pre .0) h _ or _ (start .args .a)) _ (charge-time .ensures) (if1 .left);
+    }
 
 pub consume-spec : {M : Type 1} → statement M
 consume-spec =

@@ -72,7 +72,10 @@ add-next-2 c =
     let start = c .before .before .before .before .before .before in
     let if1 = c .before .if1 in
     let count-words = c .count-words in
-    let u = input-at (start .pre .1 .1 .1) (if1 .left) in let e = input-size u _ (count-words .ensures) in let few = input-few u in omega (arith, start .pre .0 .hp, start .pre .0 .heap-cap)
+    let u = input-at (start .pre .1 .1 .1) (if1 .left) in
+    let e = input-size u _ (count-words .ensures) in
+    let few = input-few u in
+    omega (arith, start .pre .0 .hp, start .pre .0 .heap-cap)
 
 -- src/wiring.rt:132:19
 add-next-3 : tie.Need-add-next-3
@@ -97,7 +100,12 @@ place-cell-requires c κs =
     let count-words = c .before .before .before .before .count-words in
     let charge = c .before .before .charge in
     let if2 = c .before .if2 in
-    let u = input-at (start .pre .1 .1 .1) (if1 .left) in let e = input-size u _ (count-words .ensures) in let pd = went-on (charge .ensures) (if2 .taken) in let fits : start .args .self .hp + size (u .value) ≤ length (start .args .heap .now) = omega (arith, e, pd .heap, start .pre .1 .1 .0) in let low : start .args .self .hp + size (u .value) < 2 ^ 28 = omega (arith, e, pd .heap, start .pre .0 .heap-cap) in input-here u _ _ fits low
+    let u = input-at (start .pre .1 .1 .1) (if1 .left) in
+    let e = input-size u _ (count-words .ensures) in
+    let pd = went-on (charge .ensures) (if2 .taken) in
+    let fits : start .args .self .hp + size (u .value) ≤ length (start .args .heap .now) = omega (arith, e, pd .heap, start .pre .1 .1 .0) in
+    let low : start .args .self .hp + size (u .value) < 2 ^ 28 = omega (arith, e, pd .heap, start .pre .0 .heap-cap) in
+    input-here u _ _ fits low
 
 -- src/wiring.rt:136:13
 mul-stack : tie.Need-mul-stack
@@ -128,7 +136,22 @@ returns-2 c =
     let charge = c .before .before .before .before .before .charge in
     let if2 = c .before .before .before .before .if2 in
     let place-cell = c .before .before .place-cell in
-    λ or. record { each = λ ws hs h m n. let u = input-at (start .pre .1 .1 .1) (if1 .left) in let e = input-size u _ (count-words .ensures) in let pd = went-on (charge .ensures) (if2 .taken) in let fits : start .args .self .hp + size (u .value) ≤ length (start .args .heap .now) = omega (arith, e, pd .heap, start .pre .1 .1 .0) in let low : start .args .self .hp + size (u .value) < 2 ^ 28 = omega (arith, e, pd .heap, start .pre .0 .heap-cap) in let p = input-placed u fits low (place-cell .ensures) in settle-yes (copy-leads (start .pre .0) h _ or _ u _ _ (if1 .left) e) _ _ (charge .ensures) (if2 .taken) (λ x y. record { stack = copy-stack (start .pre .0) h _ or (start .args .a) u p (omega (arith, pd .depth, start .pre .1 .0)); heap = copy-heap (start .pre .0) h _ or (start .args .a) u p fits; wires = refl; order = refl }) }
+    λ or. record {
+      each = λ ws hs h m n.
+          let u = input-at (start .pre .1 .1 .1) (if1 .left) in
+          let e = input-size u _ (count-words .ensures) in
+          let pd = went-on (charge .ensures) (if2 .taken) in
+          let fits : start .args .self .hp + size (u .value) ≤ length (start .args .heap .now) = omega (arith, e, pd .heap, start .pre .1 .1 .0) in
+          let low : start .args .self .hp + size (u .value) < 2 ^ 28 = omega (arith, e, pd .heap, start .pre .0 .heap-cap) in
+          let p = input-placed u fits low (place-cell .ensures) in
+          settle-yes (copy-leads (start .pre .0) h _ or _ u _ _ (if1 .left) e) _ _ (charge .ensures) (if2 .taken)
+          (λ x y. record {
+            stack = copy-stack (start .pre .0) h _ or (start .args .a) u p (omega (arith, pd .depth, start .pre .1 .0));
+            heap = copy-heap (start .pre .0) h _ or (start .args .a) u p fits;
+            wires = refl;
+            order = refl;
+          });
+    }
 
 -- src/wiring.rt:114:5
 returns-3 : tie.Need-returns-3
@@ -138,7 +161,12 @@ returns-3 c =
     let count-words = c .before .before .before .count-words in
     let charge = c .before .charge in
     let if2 = c .if2 in
-    λ or. record { each = λ ws hs h m n. let u = input-at (start .pre .1 .1 .1) (if1 .left) in let e = input-size u _ (count-words .ensures) in settle-no (copy-leads (start .pre .0) h _ or _ u _ _ (if1 .left) e) _ (charge .ensures) (if2 .left) }
+    λ or. record {
+      each = λ ws hs h m n.
+          let u = input-at (start .pre .1 .1 .1) (if1 .left) in
+          let e = input-size u _ (count-words .ensures) in
+          settle-no (copy-leads (start .pre .0) h _ or _ u _ _ (if1 .left) e) _ (charge .ensures) (if2 .left);
+    }
 
 pub copy-input-spec : {M : Type 1} → statement M
 copy-input-spec =

@@ -65,7 +65,12 @@ returns-2 c =
     let if2 = c .before .if2 in
     let if1 = c .before .before .before .if1 in
     let halt2 = c .halt2 in
-    λ v st or e s. record { each = λ ws hs h m n. let e₁ = cell-length .ensures ((start .pre .1 .1 .0) .reading) in let big : 64 < length (spreads ((start .pre .1 .1 .0) .reading)) = omega (arith, e₁, if2 .taken) in put-over (start .pre .0) h _ or _ v _ (if1 .left) (subst (λ (l : List ℕ). 64 < length l) (held-same h n (start .pre .1 .1 .0) v e s) big) (halt2 .ensures) }
+    λ v st or e s. record {
+      each = λ ws hs h m n.
+          let e₁ = cell-length .ensures ((start .pre .1 .1 .0) .reading) in
+          let big : 64 < length (spreads ((start .pre .1 .1 .0) .reading)) = omega (arith, e₁, if2 .taken) in
+          put-over (start .pre .0) h _ or _ v _ (if1 .left) (subst (λ (l : List ℕ). 64 < length l) (held-same h n (start .pre .1 .1 .0) v e s) big) (halt2 .ensures);
+    }
 
 -- src/wiring.rt:189:19
 sub-next : tie.Need-sub-next
@@ -93,7 +98,9 @@ write-cell-requires c κs =
     let cell-length = c .before .before .before .before .before .before .cell-length in
     let start = c .before .before .before .before .before .before .before .before .before .before .before in
     let if2 = c .before .before .before .before .before .if2 in
-    let e₁ = cell-length .ensures ((start .pre .1 .1 .0) .reading) in let fits : CellFits (start .args .heap .now) (start .args .w) (65 * start .args .o + 1) (length (start .args .wires .now)) = record { reading = (start .pre .1 .1 .0) .reading; fits = omega (arith, e₁, if2 .left, wire-inside (start .pre .1 .1 .1)) } in fits
+    let e₁ = cell-length .ensures ((start .pre .1 .1 .0) .reading) in
+    let fits : CellFits (start .args .heap .now) (start .args .w) (65 * start .args .o + 1) (length (start .args .wires .now)) = record { reading = (start .pre .1 .1 .0) .reading; fits = omega (arith, e₁, if2 .left, wire-inside (start .pre .1 .1 .1)) } in
+    fits
 
 -- src/wiring.rt:194:25
 cast-wires : tie.Need-cast-wires
@@ -126,7 +133,20 @@ returns-3 c =
     let charge-time = c .before .before .before .before .before .charge-time in
     let if3 = c .before .before .before .before .if3 in
     let write-cell = c .before .before .write-cell in
-    λ v st or e s. record { each = λ ws hs h m n. let e₁ = cell-length .ensures ((start .pre .1 .1 .0) .reading) in let fits : CellFits (start .args .heap .now) (start .args .w) (65 * start .args .o + 1) (length (start .args .wires .now)) = record { reading = (start .pre .1 .1 .0) .reading; fits = omega (arith, e₁, if2 .left, wire-inside (start .pre .1 .1 .1)) } in let few : length (spreads ((start .pre .1 .1 .0) .reading)) ≤ 64 = omega (arith, e₁, if2 .left) in let same = held-same h n (start .pre .1 .1 .0) v e s in settle-yes (put-leads (start .pre .0) h _ or _ v _ (start .pre .1 .0) (if1 .left) (subst (λ (l : List ℕ). length l ≤ 64) same few)) _ _ (charge-time .ensures) (if3 .taken) (λ a b. record { stack = bears-without _ _ _ (h .stack); heap = h .heap; wires = wire-put (start .pre .1 .1 .1) (if1 .left) few (omega (arith, e₁, if2 .left)) (write-cell .ensures fits .wires-is) same; order = refl }) }
+    λ v st or e s. record {
+      each = λ ws hs h m n.
+          let e₁ = cell-length .ensures ((start .pre .1 .1 .0) .reading) in
+          let fits : CellFits (start .args .heap .now) (start .args .w) (65 * start .args .o + 1) (length (start .args .wires .now)) = record { reading = (start .pre .1 .1 .0) .reading; fits = omega (arith, e₁, if2 .left, wire-inside (start .pre .1 .1 .1)) } in
+          let few : length (spreads ((start .pre .1 .1 .0) .reading)) ≤ 64 = omega (arith, e₁, if2 .left) in
+          let same = held-same h n (start .pre .1 .1 .0) v e s in
+          settle-yes (put-leads (start .pre .0) h _ or _ v _ (start .pre .1 .0) (if1 .left) (subst (λ (l : List ℕ). length l ≤ 64) same few)) _ _ (charge-time .ensures) (if3 .taken)
+          (λ a b. record {
+            stack = bears-without _ _ _ (h .stack);
+            heap = h .heap;
+            wires = wire-put (start .pre .1 .1 .1) (if1 .left) few (omega (arith, e₁, if2 .left)) (write-cell .ensures fits .wires-is) same;
+            order = refl;
+          });
+    }
 
 -- src/wiring.rt:173:5
 returns-4 : tie.Need-returns-4
@@ -137,7 +157,12 @@ returns-4 c =
     let if1 = c .before .before .before .before .before .before .if1 in
     let charge-time = c .before .charge-time in
     let if3 = c .if3 in
-    λ v st or e s. record { each = λ ws hs h m n. let e₁ = cell-length .ensures ((start .pre .1 .1 .0) .reading) in let few : length (spreads ((start .pre .1 .1 .0) .reading)) ≤ 64 = omega (arith, e₁, if2 .left) in settle-no (put-leads (start .pre .0) h _ or _ v _ (start .pre .1 .0) (if1 .left) (subst (λ (l : List ℕ). length l ≤ 64) (held-same h n (start .pre .1 .1 .0) v e s) few)) _ (charge-time .ensures) (if3 .left) }
+    λ v st or e s. record {
+      each = λ ws hs h m n.
+          let e₁ = cell-length .ensures ((start .pre .1 .1 .0) .reading) in
+          let few : length (spreads ((start .pre .1 .1 .0) .reading)) ≤ 64 = omega (arith, e₁, if2 .left) in
+          settle-no (put-leads (start .pre .0) h _ or _ v _ (start .pre .1 .0) (if1 .left) (subst (λ (l : List ℕ). length l ≤ 64) (held-same h n (start .pre .1 .1 .0) v e s) few)) _ (charge-time .ensures) (if3 .left);
+    }
 
 pub put-spec : {M : Type 1} → statement M
 put-spec =

@@ -48,7 +48,10 @@ returns-2 c =
     let if1 = c .before .before .before .if1 in
     let if2 = c .before .if2 in
     let halt2 = c .halt2 in
-    λ P or p. record { each = λ ws hs h m n. write-other (start .pre .0) h _ or P _ m (if1 .left) refl _ (λ v. let a = v .least in let b = if2 .taken in omega arith) (halt2 .ensures) }
+    λ P or p. record {
+      each = λ ws hs h m n.
+          write-other (start .pre .0) h _ or P _ m (if1 .left) refl _ (λ v. let a = v .least in let b = if2 .taken in omega arith) (halt2 .ensures);
+    }
 
 -- src/wiring.rt:160:13
 halt-requires-3 : tie.Need-halt-requires-3
@@ -61,7 +64,10 @@ returns-3 c =
     let if1 = c .before .before .before .before .if1 in
     let if3 = c .before .if3 in
     let halt3 = c .halt3 in
-    λ P or p. record { each = λ ws hs h m n. write-other (start .pre .0) h _ or P _ m (if1 .left) refl _ (λ v. let a = v .most in let b = if3 .taken in omega arith) (halt3 .ensures) }
+    λ P or p. record {
+      each = λ ws hs h m n.
+          write-other (start .pre .0) h _ or P _ m (if1 .left) refl _ (λ v. let a = v .most in let b = if3 .taken in omega arith) (halt3 .ensures);
+    }
 
 -- src/wiring.rt:164:23
 sub-next : tie.Need-sub-next
@@ -84,7 +90,16 @@ returns-4 c =
     let if3 = c .before .before .before .if3 in
     let if4 = c .before .before .if4 in
     let charge-time = c .charge-time in
-    λ P or p. record { each = λ ws hs h m n. settled (write-nothing (start .pre .0) h _ or P _ m (if1 .left) refl _ (record { least = if2 .left; most = if3 .left }) (if4 .taken)) _ (charge-time .ensures) (λ a b. record { stack = bears-without _ _ _ (h .stack); heap = h .heap; wires = refl; order = refl }) }
+    λ P or p. record {
+      each = λ ws hs h m n.
+          settled (write-nothing (start .pre .0) h _ or P _ m (if1 .left) refl _ (record { least = if2 .left; most = if3 .left }) (if4 .taken)) _ (charge-time .ensures)
+          (λ a b. record {
+            stack = bears-without _ _ _ (h .stack);
+            heap = h .heap;
+            wires = refl;
+            order = refl;
+          });
+    }
 
 -- src/wiring.rt:168:32
 add-put : tie.Need-add-put
@@ -112,7 +127,10 @@ returns-5 c =
     let if3 = c .before .before .before .before .before .if3 in
     let if4 = c .before .before .before .before .if4 in
     let put = c .before .before .put in
-    λ P or p. record { each = λ ws hs h m n. turned-as _ _ (write-is (start .pre .0) h _ or P (start .args .a) m (if1 .left) refl _ p (record { least = if2 .left; most = if3 .left }) (if4 .left)) (put .ensures (below ws 0) _ or (top-bits (start .pre .0) h (start .args .wires .now) or P (start .args .a) m (if1 .left) refl) (top-small (start .pre .0) h (start .args .wires .now) or P (start .args .a) m (if1 .left) refl) .each ws hs h m n) }
+    λ P or p. record {
+      each = λ ws hs h m n.
+          turned-as _ _ (write-is (start .pre .0) h _ or P (start .args .a) m (if1 .left) refl _ p (record { least = if2 .left; most = if3 .left }) (if4 .left)) (put .ensures (below ws 0) _ or (top-bits (start .pre .0) h (start .args .wires .now) or P (start .args .a) m (if1 .left) refl) (top-small (start .pre .0) h (start .args .wires .now) or P (start .args .a) m (if1 .left) refl) .each ws hs h m n);
+    }
 
 pub write-spec : {M : Type 1} → statement M
 write-spec =
