@@ -14,3 +14,7 @@ pub mod Trying
 pub mod Backing
 pub mod Arms
 pub mod Telling
+pub mod Outputs
+pub mod Copying
+pub mod Reading
+pub mod Writing

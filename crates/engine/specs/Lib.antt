@@ -6,3 +6,4 @@ pub mod Endings
 pub mod Frames
 pub mod Tables
 pub mod Attempts
+pub mod Copies

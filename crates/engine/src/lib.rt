@@ -3,8 +3,11 @@ mod control;
 mod image;
 mod matching;
 mod moves;
+mod placing;
 mod regs;
+mod spreading;
 mod whole;
+mod wiring;
 mod words;
 
 use gate::Verdict;

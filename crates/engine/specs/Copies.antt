@@ -1,0 +1,141 @@
+-- Copies between a wire and the heap: what stands where one begins, and what it leaves.
+use mathlib.Core.Path.{_≡_}
+use mathlib.Core.List.{List, _++_, map}
+use Prim.Native.Nat.{ℕ, _+_, _-_, _*_, _^_, _≤_, _<_}
+use lib.Dec.{T, leb}
+use lib.ListN.{length, getD, drop}
+use lib.Seq.{sets}
+use Rattle.hume.specs.Words.{Word, null, bits, isValue}
+use Rattle.hume.specs.Values.{Value, Values, count, good, goods, prefix, prefixes, placed, refers, placedAll, refersAll, fieldsBy, spread, wireOk, isEmpty, setWire}
+use Rattle.hume.specs.State.{State, Deed, need, rewires, without}
+use Rattle.laws.specs.Sizes.{size, sizes, Small}
+use Rattle.laws.specs.Whole.{Held}
+use Rattle.engine.specs.Turns.{Bears, Smalls}
+use Rattle.engine.specs.declared.regs.Regs.{Regs}
+
+-- ---- wires
+
+-- the buffer is of whole wires, and the wire i is one that 7 does not turn away
+pub record WireFits (w : List ℕ) (i : ℕ) : Type 0 where
+  pub wires : ℕ
+  pub long : length w ≡ 65 * wires
+  pub inside : i < wires
+  pub ok : T (wireOk w i)
+
+-- ---- the words of the outputs, read from the top down
+
+-- the 32 bits of a reference or of None
+pub record ValueBits (x : ℕ) : Type 0 where
+  pub least : 2 ^ 28 ≤ x
+  pub most : x ≤ 2 ^ 29
+
+-- r is the first of n that isn't a reference or None
+pub record FirstOther (st : List ℕ) (sp n r : ℕ) : Type 0 where
+  pub most : r ≤ n
+  pub before : (k : ℕ) → k < r → ValueBits (getD st (sp - (k + 1)) 0)
+  pub at : r < n → ValueBits (getD st (sp - (r + 1)) 0) → ⊥
+
+-- the output k isn't None and its wire is full
+pub record Stuck (st : List ℕ) (sp : ℕ) (w : List ℕ) (inputs k : ℕ) : Type 0 where
+  pub some : getD st (sp - (k + 1)) 0 ≡ 2 ^ 29 → ⊥
+  pub full : getD w (65 * (inputs + k)) 0 ≡ 0 → ⊥
+
+-- r is the first of n outputs that is stuck
+pub record FirstStuck (st : List ℕ) (sp : ℕ) (w : List ℕ) (inputs n r : ℕ) : Type 0 where
+  pub most : r ≤ n
+  pub before : (k : ℕ) → k < r → Stuck st sp w inputs k → ⊥
+  pub at : r < n → Stuck st sp w inputs r
+
+-- ---- from a wire to the heap
+
+-- A good value's prefix form stands at the index i of the words w, and a heap has room for a copy at hp.
+pub record CellHere (w : List ℕ) (i room hp : ℕ) : Type 0 where
+  pub value : Value
+  pub rest : List ℕ
+  pub good : T (good value)
+  pub here : drop i w ≡ prefix value ++ rest
+  pub fits : hp + size value ≤ room
+  pub low : hp + size value < 2 ^ 28
+
+-- The copy is made: the next index, the next heap place, the word that refers to it, and the heap.
+pub record CellPlaced (v : Value) (i hp : ℕ) (he : List ℕ) (next top x : ℕ) (he' : List ℕ) : Type 0 where
+  pub next-is : next ≡ i + length (prefix v)
+  pub top-is : top ≡ hp + size v
+  pub word-is : x ≡ bits (refers v hp)
+  pub heap-is : he' ≡ sets he hp (map bits (placed v hp))
+
+-- So with n values, whose references go j places past the last one's words.
+pub record FieldsHere (w : List ℕ) (i n j room hp : ℕ) : Type 0 where
+  pub values : Values
+  pub rest : List ℕ
+  pub good : T (goods values)
+  pub many : n ≡ count values
+  pub here : drop i w ≡ prefixes values ++ rest
+  pub fits : hp + sizes values + j + n ≤ room
+  pub low : hp + sizes values + j + n < 2 ^ 28
+
+pub record FieldsPlaced (vs : Values) (i j hp : ℕ) (he : List ℕ) (next top : ℕ) (he' : List ℕ) : Type 0 where
+  pub next-is : next ≡ i + length (prefixes vs)
+  pub top-is : top ≡ hp + sizes vs
+  pub heap-is : he' ≡ sets (sets he hp (map bits (placedAll vs hp))) (top + j) (map bits (refersAll vs hp))
+
+-- ---- from the heap to a wire
+
+-- The heap bears words that hold the word of the bits x.
+pub record Readable (he : List ℕ) (x : ℕ) : Type 0 where
+  pub words : List Word
+  pub word : Word
+  pub bears : Bears he words
+  pub smalls : Smalls words
+  pub small : Small word
+  pub held : Held words word
+  pub is : x ≡ bits word
+
+-- It bears words that hold each of the n from the place q on.
+pub record FieldsReadable (he : List ℕ) (q n : ℕ) : Type 0 where
+  pub words : List Word
+  pub bears : Bears he words
+  pub smalls : Smalls words
+  pub inside : q + n ≤ length words
+  pub held : (i : ℕ) → i < n → Held words (getD words (q + i) null)
+
+-- what the words spread out to
+abbrev pub spreads : {he : List ℕ} {x : ℕ} → Readable he x → List ℕ
+spreads k = spread (k .words) (k .word)
+
+abbrev pub spreadsAll : {he : List ℕ} {q n : ℕ} → FieldsReadable he q n → List ℕ
+spreadsAll {he} {q} {n} k = fieldsBy (spread (k .words)) (k .words) q n
+
+-- There is room for the words that it spreads out to, from the index `at` on.
+pub record CellFits (he : List ℕ) (x at room : ℕ) : Type 0 where
+  pub reading : Readable he x
+  pub fits : at + length (spreads reading) ≤ room
+
+pub record FieldsFit (he : List ℕ) (q n at room : ℕ) : Type 0 where
+  pub reading : FieldsReadable he q n
+  pub fits : at + length (spreadsAll reading) ≤ room
+
+-- The words ws are written from there on: the index after them, and the wires.
+pub record Written (ws : List ℕ) (at : ℕ) (w : List ℕ) (next : ℕ) (w' : List ℕ) : Type 0 where
+  pub next-is : next ≡ at + length ws
+  pub wires-is : w' ≡ sets w at ws
+
+-- The word of the bits x is held by the words that the heap bears.
+pub record HeldWord (r : Regs) (he : List ℕ) (x : ℕ) : Type 0 where
+  pub reading : Readable he x
+  pub long : length (reading .words) ≡ r .hp
+
+-- Write, of the word v to the wire o: "5 Write of a reference to a full wire; 6 value over 64 wire words"
+unfoldable pub putting : ℕ → Word → State → Deed
+putting o v s =
+    need (isEmpty (s .wires) o) 5
+    (need (leb (length (spread (s .heap) v)) 64) 6
+    (rewires s (without 1 (s .stack)) (setWire (s .wires) o (spread (s .heap) v))))
+
+-- The value on top of the stack, if there is one, is held by the words that the heap bears.
+pub record TopHeld (r : Regs) (st he : List ℕ) : Type 0 where
+  pub words : List Word
+  pub bears : Bears he words
+  pub smalls : Smalls words
+  pub long : length words ≡ r .hp
+  pub held : (w : Word) → r .lp < r .sp → getD st (r .sp - 1) 0 ≡ bits w → Small w → T (isValue w) → Held words w
