@@ -2,3 +2,4 @@ pub mod Charges
 pub mod Turning
 pub mod Areas
 pub mod Moving
+pub mod Building

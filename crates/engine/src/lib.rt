@@ -1,4 +1,5 @@
 // The machine of document 01 on lent slices.
+mod builds;
 mod moves;
 mod regs;
 
