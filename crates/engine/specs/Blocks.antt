@@ -1,7 +1,7 @@
 -- What the building instructions need and do: objects on the heap, and words that a loop moves.
 use mathlib.Core.Path.{_≡_}
 use mathlib.Core.List.{List, [], _∷_}
-use Prim.Native.Nat.{ℕ, _+_, _/_, _%_, _^_, _≤_, _<_}
+use Prim.Native.Nat.{ℕ, _+_, _-_, _/_, _%_, _^_, _≤_, _<_}
 use lib.ListN.{length, getD}
 use Rattle.hume.specs.Words.{raw}
 use Rattle.hume.specs.State.{State, Deed, builds}
@@ -22,3 +22,11 @@ pub record Placed (old new : List ℕ) (at n : ℕ) (f : ℕ → ℕ) : Type 0 w
   pub low : (j : ℕ) → j < at → getD new j 0 ≡ getD old j 0
   pub put : (i : ℕ) → i < n → getD new (at + i) 0 ≡ f i
   pub high : (j : ℕ) → at + n ≤ j → getD new j 0 ≡ getD old j 0
+
+-- the words of a list from the one below a depth on down
+abbrev pub fromTop : List ℕ → ℕ → ℕ → ℕ
+fromTop l sp i = getD l (sp - (i + 1)) 0
+
+-- the words of a list from a place on
+abbrev pub fromPlace : List ℕ → ℕ → ℕ → ℕ
+fromPlace l p i = getD l (p + i) 0

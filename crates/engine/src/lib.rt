@@ -2,6 +2,7 @@
 mod builds;
 mod moves;
 mod regs;
+mod words;
 
 // "an ending carries its own detail inside the returned record"
 pub enum Ending {
