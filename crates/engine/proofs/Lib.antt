@@ -3,3 +3,4 @@ pub mod Turning
 pub mod Areas
 pub mod Moving
 pub mod Building
+pub mod Yielding

@@ -1,3 +1,4 @@
 pub mod Turns
 pub mod Fits
 pub mod Blocks
+pub mod Outcomes

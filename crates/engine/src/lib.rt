@@ -1,6 +1,7 @@
 // The machine of document 01 on lent slices.
 mod builds;
 mod moves;
+mod prims;
 mod regs;
 mod words;
 
