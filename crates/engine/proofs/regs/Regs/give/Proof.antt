@@ -1,3 +1,12 @@
+use mathlib.Core.Path.{refl, sym}
+use native.Mathlib.Omega.{arith}
+use lib.ListN.{length-set}
+use lib.Seq.{length-take-le}
+use Rattle.laws.proofs.Words.{bits-raw}
+use Rattle.engine.proofs.Turning.{settle-yes, settle-no, went-on}
+use Rattle.engine.proofs.Areas.{bears-push, bears-take}
+use Rattle.engine.proofs.Building.{bears-two, bits-ref}
+use Rattle.engine.proofs.Yielding.{give-leads}
 use borrow.Author.Needs.{needs}
 use Rattle.engine.proofs.regs.Regs.give.Statement.{statement}
 use Rattle.engine.proofs.regs.Regs.give.Tie as tie
@@ -27,7 +36,11 @@ mul-heap c = search needs
 
 -- src/prims.rt:297:13
 slice-write-heap : tie.Need-slice-write-heap
-slice-write-heap c = ?
+slice-write-heap c =
+    let charge = c .before .charge in
+    let if1 = c .if1 in
+    let start = c .before .before .before .before .before in
+    let p = went-on (charge .ensures) (if1 .taken) in omega (arith, p .heap, start .pre .1 .1 .0)
 
 -- src/prims.rt:298:18
 add-heap : tie.Need-add-heap
@@ -39,7 +52,11 @@ mul-heap-2 c = search needs
 
 -- src/prims.rt:298:13
 slice-write-heap-2 : tie.Need-slice-write-heap-2
-slice-write-heap-2 c = ?
+slice-write-heap-2 c =
+    let charge = c .before .charge in
+    let if1 = c .if1 in
+    let start = c .before .before .before .before .before in
+    let p = went-on (charge .ensures) (if1 .taken) in simp length-set (omega (arith, p .heap, start .pre .1 .1 .0))
 
 -- src/prims.rt:299:38
 cast-stack : tie.Need-cast-stack
@@ -67,11 +84,19 @@ same-length-2 c = search needs
 
 -- src/prims.rt:283:5
 returns : tie.Need-returns
-returns c = ?
+returns c =
+    let start = c .before .before .before .before .before in
+    let charge = c .before .charge in
+    let if1 = c .if1 in
+    λ P t k wi or d. record { each = λ ws hs h m n. settle-yes (give-leads (start .pre .0) h wi or P _ t k _ _ _ (start .pre .1 .1 .1 .0) (start .pre .1 .1 .1 .1) d) _ _ (charge .ensures) (if1 .taken) (λ a b. record { stack = bears-push _ _ _ _ _ (bears-take _ ws (start .args .low) (omega (arith, start .pre .1 .1 .1 .1, h .sp)) (h .stack)) (sym (length-take-le (start .args .low) ws (omega (arith, start .pre .1 .1 .1 .1, h .sp)))) (bits-ref _ _ (h .hp)) (omega (arith, start .pre .1 .0, a)); heap = bears-two _ hs _ _ _ _ _ _ (h .heap) (h .hp) refl (sym (bits-raw _)) (sym (bits-raw _)) (omega (arith, start .pre .1 .1 .0, b)); wires = refl; order = refl }) }
 
 -- src/prims.rt:283:5
 returns-2 : tie.Need-returns-2
-returns-2 c = ?
+returns-2 c =
+    let start = c .before .before .before .before .before in
+    let charge = c .before .charge in
+    let if1 = c .if1 in
+    λ P t k wi or d. record { each = λ ws hs h m n. settle-no (give-leads (start .pre .0) h wi or P _ t k _ _ _ (start .pre .1 .1 .1 .0) (start .pre .1 .1 .1 .1) d) _ (charge .ensures) (if1 .left) }
 
 pub give-spec : {M : Type 1} → statement M
 give-spec =

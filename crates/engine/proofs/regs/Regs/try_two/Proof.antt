@@ -1,3 +1,10 @@
+use mathlib.Core.Path.{refl, sym, _∙_, ap}
+use native.Mathlib.Omega.{arith}
+use Prim.Native.Nat.{_-_}
+use Rattle.engine.specs.Outcomes.{settled}
+use Rattle.engine.proofs.Turning.{reads-below}
+use Rattle.engine.proofs.Building.{small-below}
+use Rattle.engine.proofs.Yielding.{two-few, two-no-first, two-no-second, two-is, fair-fault, fair-tried, tame-two}
 use borrow.Author.Needs.{needs}
 use Rattle.engine.proofs.regs.Regs.try_two.Statement.{statement}
 use Rattle.engine.proofs.regs.Regs.try_two.Tie as tie
@@ -12,7 +19,10 @@ sub-if1 c = search needs
 
 -- src/prims.rt:231:13
 returns : tie.Need-returns
-returns c = ?
+returns c =
+    let start = c .before .before .before .before in
+    let if1 = c .if1 in
+    (record { each = λ P ws hs wi or h m n. two-few (start .pre .0) h wi or P _ (if1 .taken) }, fair-fault _ 1)
 
 -- src/prims.rt:233:23
 sub-w : tie.Need-sub-w
@@ -40,11 +50,19 @@ shared-slice-read-v c = search needs
 
 -- src/prims.rt:236:13
 returns-2 : tie.Need-returns-2
-returns-2 c = ?
+returns-2 c =
+    let start = c .before .before .before .before .before .before .before in
+    let if1 = c .before .before .before .if1 in
+    let if2 = c .if2 in
+    (record { each = λ P ws hs wi or h m n. two-no-first (start .pre .0) h wi or P _ _ _ (reads-below h 0 _ (omega (arith, if1 .left)) refl) (reads-below h 1 _ (omega (arith, if1 .left)) refl) (small-below 0 m) (small-below 1 m) (if1 .left) (if2 .taken) }, fair-fault _ 2)
 
 -- src/prims.rt:239:13
 returns-3 : tie.Need-returns-3
-returns-3 c = ?
+returns-3 c =
+    let start = c .before .before .before .before .before .before .before .before in
+    let if1 = c .before .before .before .before .if1 in
+    let if3 = c .if3 in
+    (record { each = λ P ws hs wi or h m n. two-no-second (start .pre .0) h wi or P _ _ _ (reads-below h 0 _ (omega (arith, if1 .left)) refl) (reads-below h 1 _ (omega (arith, if1 .left)) refl) (small-below 0 m) (small-below 1 m) (if1 .left) (if3 .taken) }, fair-fault _ 2)
 
 -- src/prims.rt:241:17
 cast-p : tie.Need-cast-p
@@ -60,7 +78,11 @@ mul-prim2 c = search needs
 
 -- src/prims.rt:243:25
 shared-slice-read-prim2 : tie.Need-shared-slice-read-prim2
-shared-slice-read-prim2 c = ?
+shared-slice-read-prim2 c =
+    let start = c .before .before .before .before .before .before .before .before .before in
+    let if1 = c .before .before .before .before .before .if1 in
+    let if2 = c .before .before .if2 in
+    let p = start .pre .1 .1 .1 .each _ (omega (arith, if1 .left)) (if2 .left) in omega (arith, start .pre .1 .1 .0, start .pre .0 .hp)
 
 -- src/prims.rt:243:39
 add-prim2 : tie.Need-add-prim2
@@ -72,7 +94,11 @@ mul-prim2-2 c = search needs
 
 -- src/prims.rt:243:34
 shared-slice-read-prim2-2 : tie.Need-shared-slice-read-prim2-2
-shared-slice-read-prim2-2 c = ?
+shared-slice-read-prim2-2 c =
+    let start = c .before .before .before .before .before .before .before .before .before .before in
+    let if1 = c .before .before .before .before .before .before .if1 in
+    let if2 = c .before .before .before .if2 in
+    let p = start .pre .1 .1 .1 .each _ (omega (arith, if1 .left)) (if2 .left) in omega (arith, start .pre .1 .1 .0, start .pre .0 .hp)
 
 -- src/prims.rt:243:47
 mul-prim2-3 : tie.Need-mul-prim2-3
@@ -80,7 +106,11 @@ mul-prim2-3 c = search needs
 
 -- src/prims.rt:243:47
 shared-slice-read-prim2-3 : tie.Need-shared-slice-read-prim2-3
-shared-slice-read-prim2-3 c = ?
+shared-slice-read-prim2-3 c =
+    let start = c .before .before .before .before .before .before .before .before .before .before .before in
+    let if1 = c .before .before .before .before .before .before .before .if1 in
+    let if3 = c .before .before .before .if3 in
+    let p = start .pre .1 .1 .1 .each _ (omega (arith, if1 .left)) (if3 .left) in omega (arith, start .pre .1 .1 .0, start .pre .0 .hp)
 
 -- src/prims.rt:243:61
 add-prim2-2 : tie.Need-add-prim2-2
@@ -92,7 +122,11 @@ mul-prim2-4 c = search needs
 
 -- src/prims.rt:243:56
 shared-slice-read-prim2-4 : tie.Need-shared-slice-read-prim2-4
-shared-slice-read-prim2-4 c = ?
+shared-slice-read-prim2-4 c =
+    let start = c .before .before .before .before .before .before .before .before .before .before .before .before in
+    let if1 = c .before .before .before .before .before .before .before .before .if1 in
+    let if3 = c .before .before .before .before .if3 in
+    let p = start .pre .1 .1 .1 .each _ (omega (arith, if1 .left)) (if3 .left) in omega (arith, start .pre .1 .1 .0, start .pre .0 .hp)
 
 -- src/prims.rt:243:16
 prim2-requires : tie.Need-prim2-requires
@@ -108,7 +142,14 @@ settle-requires c κs = search needs
 
 -- src/prims.rt:221:5
 returns-4 : tie.Need-returns-4
-returns-4 c = ?
+returns-4 c =
+    let start = c .before .before .before .before .before .before .before .before .before .before .before .before .before .before in
+    let if1 = c .before .before .before .before .before .before .before .before .before .before .if1 in
+    let if2 = c .before .before .before .before .before .before .before .if2 in
+    let if3 = c .before .before .before .before .before .before .if3 in
+    let settle = c .settle in
+    let prim2 = c .before .prim2 in
+    let p = start .pre .1 .1 .1 .each _ (omega (arith, if1 .left)) (if2 .left) in let q = start .pre .1 .1 .1 .each _ (omega (arith, if1 .left)) (if3 .left) in let o = settle .ensures ∙ ap (settled (start .args .self .sp - 2)) (prim2 .ensures) in (record { each = λ P ws hs wi or h m n. two-is (start .pre .0) h wi or P _ _ _ (reads-below h 0 _ (omega (arith, if1 .left)) refl) (reads-below h 1 _ (omega (arith, if1 .left)) refl) (small-below 0 m) (small-below 1 m) (if1 .left) _ _ _ _ (if2 .left) (if3 .left) p q refl refl refl refl _ o }, fair-tried _ _ (tame-two _) _ _ _ _ o (omega (arith, if1 .left)) (omega (arith, if1 .left)))
 
 pub try-two-spec : {M : Type 1} → statement M
 try-two-spec =
