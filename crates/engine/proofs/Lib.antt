@@ -18,3 +18,5 @@ pub mod Outputs
 pub mod Copying
 pub mod Reading
 pub mod Writing
+pub mod Building
+pub mod Yielding

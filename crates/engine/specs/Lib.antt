@@ -7,3 +7,5 @@ pub mod Frames
 pub mod Tables
 pub mod Attempts
 pub mod Copies
+pub mod Blocks
+pub mod Outcomes

@@ -1,9 +1,11 @@
 // The machine of document 01 on lent slices.
+mod builds;
 mod control;
 mod image;
 mod matching;
 mod moves;
 mod placing;
+mod prims;
 mod regs;
 mod spreading;
 mod whole;
