@@ -1,6 +1,9 @@
 pub mod Charges
 pub mod Turning
 pub mod Areas
+pub mod WordKinds
+pub mod Stores
 pub mod Moving
 pub mod Building
 pub mod Yielding
+pub mod Wholes

@@ -37,7 +37,8 @@ use Rattle.engine.specs.declared.prims.Yielded.{Yielded}
 use Rattle.engine.specs.declared.prims.Yielded.the-variants as yielded
 use Rattle.engine.proofs.Turning.{Leads, stops, turned-as, lead-grown, values-are}
 use Rattle.engine.proofs.Areas.{bears-push, bears-take, locals-take}
-use Rattle.engine.proofs.Building.{payload-of, ref-of, no-ref-of, reads-number, bears-two, built, builds-lead}
+use Rattle.engine.proofs.Building.{bears-two, built, builds-lead}
+use Rattle.engine.proofs.WordKinds.{cell-no, cell-is, second-is}
 
 -- ---- the table of cycles
 
@@ -338,8 +339,7 @@ unfolding need tried pick
 prim-deal P s n low p true x y e = yield-deal P s n low p (p .yields x y) e
 prim-deal P s n low p false x y e = refl
 
-module _ {lim : Limits} {r : Regs} (f : Fit lim r) {st he : List ℕ} {ws hs : List Word} (h : Holds r st he ws hs)
-    (wi or : List ℕ) where
+module _ {r : Regs} {st he : List ℕ} {ws hs : List Word} (h : Holds r st he ws hs) (wi or : List ℕ) where
   abbrev s : State
   s = core r ws hs wi or false
 
@@ -352,21 +352,18 @@ module _ {lim : Limits} {r : Regs} (f : Fit lim r) {st he : List ℕ} {ws hs : L
   -- the operand i below the top, as it is read
   module _ (i w : ℕ) (e : w ≡ bits (below ws i)) (k : Small (below ws i)) (p : Primitive) where
     operand-no : (w / 2 ^ 28 ≡ 1 → ⊥) → operandOk s p i ≡ false
-    unfolding operandOk isCell
-    operand-no t = rw (no-ref-of w (below ws i) e k t)
+    unfolding operandOk
+    operand-no t = cell-no e k hs (p .takes) t
 
     module _ (t : w / 2 ^ 28 ≡ 1) (l : w % 2 ^ 28 + 2 ≤ r .hp) where
       operand-ok : (x : ℕ) → x ≡ getD he (w % 2 ^ 28) 0 → operandOk s p i ≡ eqb x (p .takes)
-      unfolding operandOk isCell
+      unfolding operandOk
       operand-ok x z =
-          let y = payload-of w (below ws i) e k in
-          rw (ref-of w (below ws i) e k t, ← reads-number f h wi or x (below ws i .payload) (w % 2 ^ 28) 0 z (omega arith) (omega arith))
+          cell-is e k (p .takes) t (h .heap) (omega (arith, h .hp)) ∙ ap (λ (n : ℕ). eqb n (p .takes)) (sym z)
 
       operand-is : (x : ℕ) → x ≡ getD he (w % 2 ^ 28 + 1) 0 → operand s i ≡ x
-      unfolding operand second
-      operand-is x z =
-          let y = payload-of w (below ws i) e k in
-          sym (reads-number f h wi or x (below ws i .payload) (w % 2 ^ 28 + 1) 1 z (omega arith) (omega arith))
+      unfolding operand
+      operand-is x z = second-is e k (h .heap) (omega (arith, h .hp)) ∙ sym z
 
   module _ (P : Program) (a : ℕ) where
     pub one-few : r .sp ≤ r .lp → CallPrim1 P a s ≡ ends (fault 1)
@@ -447,22 +444,6 @@ module _ {lim : Limits} {r : Regs} (f : Fit lim r) {st he : List ℕ} {ws hs : L
         ∙ need-yes (isValue (below ws 0)) 2 _ (of-true v)
         ∙ ap (raise P s 0 b) (sym (ap raw e ∙ raw-bits (below ws 0) m))
 
-  -- ---- what follows
-
-  -- a result in the place of the operands
-  pub give-leads : (P : Program) (cost t k low x y : ℕ) → r .lp ≤ low → low < r .sp → cost ≡ t + k
-      → Leads cost (priced t (dealt P k (outcome.Value low x y)) s) (built r (low + 1) (r .hp + 2)) (take low ws ++ ref (hp s) ∷ []) (hs ++ raw x ∷ raw y ∷ []) wi or
-  give-leads P cost t k low x y l m e =
-      builds-lead f h wi or t cost k low (r .hp + 2) (take low ws) (raw x ∷ raw y ∷ []) refl e
-      (sym (length-take-le low ws (omega (arith, h .sp)))) (omega (arith, f .fp)) (locals-take (r .fp) low ws (omega (arith, f .fp))) refl
-
-  -- an exception with no handler
-  pub unhandled-stops : (P : Program) (t k e w handler entry : ℕ) {b : Buffers} {q : Turn} → Handled P handler entry → handler ≡ 255 → q ≡ halt r (ending.Unhandled e)
-      → Turned lim r b (priced t (dealt P k (outcome.Raises e w)) s) q b
-  unfolding raise
-  unhandled-stops P t k e w handler entry {b} {q} d z p =
-      stops t lim r b s (unhandled e) (pick-true (eqb (P .handler) 255) _ _ (of-true (eq-eqb (P .handler) 255 (d .handler-is ∙ z)))) p
-
 -- the registers where a handler is entered
 abbrev pub entered : Regs → ℕ → ℕ → Regs
 entered r handler entry =
@@ -510,6 +491,21 @@ bears-exn l hs e w p m b d q h =
     (omega arith) (sym (bits-raw w)) (simp length-set (omega arith)))
 
 module _ {r : Regs} {st he : List ℕ} {ws hs : List Word} (h : Holds r st he ws hs) (wi or : List ℕ) where
+  -- a result in the place of the operands
+  pub give-leads : {lim : Limits} (f : Fit lim r) (P : Program) (cost t k low x y : ℕ) → r .lp ≤ low → low < r .sp → cost ≡ t + k
+      → Leads cost (priced t (dealt P k (outcome.Value low x y)) (core r ws hs wi or false)) (built r (low + 1) (r .hp + 2)) (take low ws ++ ref (length hs) ∷ []) (hs ++ raw x ∷ raw y ∷ []) wi or
+  give-leads f P cost t k low x y l m e =
+      builds-lead f h wi or t cost k low (r .hp + 2) (take low ws) (raw x ∷ raw y ∷ []) refl e
+      (sym (length-take-le low ws (omega (arith, h .sp)))) (omega (arith, f .fp)) (locals-take (r .fp) low ws (omega (arith, f .fp))) refl
+
+  -- an exception with no handler
+  pub unhandled-stops : (lim : Limits) (P : Program) (t k e w handler entry : ℕ) {b : Buffers} {q : Turn} → Handled P handler entry → handler ≡ 255 → q ≡ halt r (ending.Unhandled e)
+      → Turned lim r b (priced t (dealt P k (outcome.Raises e w)) (core r ws hs wi or false)) q b
+  unfolding raise
+  unhandled-stops lim P t k e w handler entry {b} {q} d z p =
+      stops t lim r b (core r ws hs wi or false) (unhandled e)
+      (pick-true (eqb (P .handler) 255) _ _ (of-true (eq-eqb (P .handler) 255 (d .handler-is ∙ z)))) p
+
   pub raise-leads : (P : Program) (cost t k e w handler entry : ℕ) → Handled P handler entry → (handler ≡ 255 → ⊥) → cost ≡ t + k
       → Leads cost (priced t (dealt P k (outcome.Raises e w)) (core r ws hs wi or false)) (entered r handler entry) (thrown (length hs))
       (hs ++ raw (exnHeader e) ∷ raw 1 ∷ raw w ∷ []) wi or

@@ -197,10 +197,8 @@ fn cycles(op: usize, a: usize) -> u32
 
 impl Regs {
     // "19 CallPrim1 a [0]"
-    fn try_one(self, lim: Limits, a: usize, stack: &[u32], heap: &[u32]) -> Outcome
-        requires { ⌜ Fit lim self ⌝ }
-        requires { ⌜ lim .stack ≤ length (now stack) ⌝ }
-        requires { ⌜ lim .heap ≤ length (now heap) ⌝ }
+    fn try_one(self, a: usize, stack: &[u32], heap: &[u32]) -> Outcome
+        requires { ⌜ (self .lp ≤ self .sp) × (self .sp ≤ length (now stack)) × (self .hp ≤ length (now heap)) ⌝ }
         requires { ⌜ Refs self (now stack) ⌝ }
         ensures { λ r. ⌜ Deals self (now (stack .entry)) (now (heap .entry)) (primitive1 a .cycles) (λ P. CallPrim1 P a) r ⌝ }
         ensures { λ r. ⌜ Fair self r ⌝ }
@@ -218,10 +216,8 @@ impl Regs {
     }
 
     // "20 CallPrim2 a [-1]", "the top word being the first operand"
-    fn try_two(self, lim: Limits, a: usize, stack: &[u32], heap: &[u32]) -> Outcome
-        requires { ⌜ Fit lim self ⌝ }
-        requires { ⌜ lim .stack ≤ length (now stack) ⌝ }
-        requires { ⌜ lim .heap ≤ length (now heap) ⌝ }
+    fn try_two(self, a: usize, stack: &[u32], heap: &[u32]) -> Outcome
+        requires { ⌜ (self .lp ≤ self .sp) × (self .sp ≤ length (now stack)) × (self .hp ≤ length (now heap)) ⌝ }
         requires { ⌜ Refs self (now stack) ⌝ }
         ensures { λ r. ⌜ Deals self (now (stack .entry)) (now (heap .entry)) (primitive2 a .cycles) (λ P. CallPrim2 P a) r ⌝ }
         ensures { λ r. ⌜ Fair self r ⌝ }
@@ -244,9 +240,8 @@ impl Regs {
     }
 
     // "21 Raise b: makes Exn b of the top value (reference or None)"
-    fn try_raise(self, lim: Limits, b: u32, stack: &[u32]) -> Outcome
-        requires { ⌜ Fit lim self ⌝ }
-        requires { ⌜ lim .stack ≤ length (now stack) ⌝ }
+    fn try_raise(self, b: u32, stack: &[u32]) -> Outcome
+        requires { ⌜ self .sp ≤ length (now stack) ⌝ }
         requires { ⌜ b < 65536 ⌝ }
         ensures { λ r. ⌜ ((he : List ℕ) → Deals self (now (stack .entry)) he 0 (λ P. Raise P b) r) ⌝ }
         ensures { λ r. ⌜ Fair self r ⌝ }
@@ -262,21 +257,19 @@ impl Regs {
         Outcome::Raises(b, w)
     }
 
-    fn try_any(self, lim: Limits, op: usize, a: usize, b: u32, stack: &[u32], heap: &[u32]) -> Outcome
-        requires { ⌜ Fit lim self ⌝ }
-        requires { ⌜ lim .stack ≤ length (now stack) ⌝ }
-        requires { ⌜ lim .heap ≤ length (now heap) ⌝ }
+    fn try_any(self, op: usize, a: usize, b: u32, stack: &[u32], heap: &[u32]) -> Outcome
+        requires { ⌜ (self .lp ≤ self .sp) × (self .sp ≤ length (now stack)) × (self .hp ≤ length (now heap)) ⌝ }
         requires { ⌜ Refs self (now stack) ⌝ }
         requires { ⌜ b < 65536 ⌝ }
         ensures { λ r. ⌜ Tries self (now (stack .entry)) (now (heap .entry)) op a b r ⌝ }
     {
         if op == 19 {
-            return self.try_one(lim, a, stack, heap);
+            return self.try_one(a, stack, heap);
         }
         if op == 20 {
-            return self.try_two(lim, a, stack, heap);
+            return self.try_two(a, stack, heap);
         }
-        self.try_raise(lim, b, stack)
+        self.try_raise(b, stack)
     }
 
     // "result 2 heap words", in the place of the operands
@@ -350,7 +343,7 @@ impl Regs {
         ensures { λ r. ⌜ ((P : Program) (wi or : List ℕ) → Handled P handler entry → op ≡ 20 → Meets lim self (buffers (now (stack .entry)) (now (heap .entry)) wi or) (priced cost (CallPrim2 P a)) r (buffers (now (stack .exit)) (now (heap .exit)) wi or)) ⌝ }
         ensures { λ r. ⌜ ((P : Program) (wi or : List ℕ) → Handled P handler entry → op ≡ 21 → Meets lim self (buffers (now (stack .entry)) (now (heap .entry)) wi or) (priced cost (Raise P b)) r (buffers (now (stack .exit)) (now (heap .exit)) wi or)) ⌝ }
     {
-        let o = self.try_any(lim, op, a, b, stack, heap);
+        let o = self.try_any(op, a, b, stack, heap);
         let time = cost + cycles(op, a) as usize;
         match o {
             Outcome::Fault(n) => self.halt(Ending::Fault(n)),

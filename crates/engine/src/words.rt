@@ -1,6 +1,7 @@
 // What kind of word 32 bits are.
 ghost use mathlib.Core.Path.{_≡_};
-ghost use Rattle.hume.specs.Words.{Word, bits, isValue};
+ghost use mathlib.Core.Bool.{_||_};
+ghost use Rattle.hume.specs.Words.{Word, bits, isNull, isValue};
 ghost use Rattle.laws.specs.Sizes.{Small};
 
 // "a reference or None"
@@ -11,4 +12,14 @@ pub(crate) fn is_value(w: u32) -> bool
         return true;
     }
     w == 536870912
+}
+
+// "null, a reference or None"
+pub(crate) fn is_plain(w: u32) -> bool
+    ensures { λ r. ⌜ ((v : Word) → w ≡ bits v → Small v → r ≡ (isNull v || isValue v)) ⌝ }
+{
+    if w == 0 {
+        return true;
+    }
+    is_value(w)
 }

@@ -17,7 +17,8 @@ use Rattle.engine.proofs.regs.Regs.try_any.Reads as try-any-reads
 try-any-requires : tie.Need-try-any-requires
 try-any-requires c κs =
     let start = c .before .before .before .before in
-    (start .pre .0, (start .pre .1 .0, (start .pre .1 .1 .0, (start .pre .1 .1 .1 .0, start .pre .1 .1 .1 .1 .0))))
+    let f = start .pre .0 in
+    ((f .lp, omega (arith, f .sp, start .pre .1 .0), omega (arith, f .hp, start .pre .1 .1 .0)), (start .pre .1 .1 .1 .0, start .pre .1 .1 .1 .1 .0))
 
 -- src/prims.rt:354:27
 cycles-requires : tie.Need-cycles-requires

@@ -88,7 +88,7 @@ returns c =
     let start = c .before .before .before .before .before in
     let charge = c .before .charge in
     let if1 = c .if1 in
-    λ P t k wi or d. record { each = λ ws hs h m n. settle-yes (give-leads (start .pre .0) h wi or P _ t k _ _ _ (start .pre .1 .1 .1 .0) (start .pre .1 .1 .1 .1) d) _ _ (charge .ensures) (if1 .taken) (λ a b. record { stack = bears-push _ _ _ _ _ (bears-take _ ws (start .args .low) (omega (arith, start .pre .1 .1 .1 .1, h .sp)) (h .stack)) (sym (length-take-le (start .args .low) ws (omega (arith, start .pre .1 .1 .1 .1, h .sp)))) (bits-ref _ _ (h .hp)) (omega (arith, start .pre .1 .0, a)); heap = bears-two _ hs _ _ _ _ _ _ (h .heap) (h .hp) refl (sym (bits-raw _)) (sym (bits-raw _)) (omega (arith, start .pre .1 .1 .0, b)); wires = refl; order = refl }) }
+    λ P t k wi or d. record { each = λ ws hs h m n. settle-yes (give-leads h wi or (start .pre .0) P _ t k _ _ _ (start .pre .1 .1 .1 .0) (start .pre .1 .1 .1 .1) d) _ _ (charge .ensures) (if1 .taken) (λ a b. record { stack = bears-push _ _ _ _ _ (bears-take _ ws (start .args .low) (omega (arith, start .pre .1 .1 .1 .1, h .sp)) (h .stack)) (sym (length-take-le (start .args .low) ws (omega (arith, start .pre .1 .1 .1 .1, h .sp)))) (bits-ref _ _ (h .hp)) (omega (arith, start .pre .1 .0, a)); heap = bears-two _ hs _ _ _ _ _ _ (h .heap) (h .hp) refl (sym (bits-raw _)) (sym (bits-raw _)) (omega (arith, start .pre .1 .1 .0, b)); wires = refl; order = refl }) }
 
 -- src/prims.rt:283:5
 returns-2 : tie.Need-returns-2
@@ -96,7 +96,7 @@ returns-2 c =
     let start = c .before .before .before .before .before in
     let charge = c .before .charge in
     let if1 = c .if1 in
-    λ P t k wi or d. record { each = λ ws hs h m n. settle-no (give-leads (start .pre .0) h wi or P _ t k _ _ _ (start .pre .1 .1 .1 .0) (start .pre .1 .1 .1 .1) d) _ (charge .ensures) (if1 .left) }
+    λ P t k wi or d. record { each = λ ws hs h m n. settle-no (give-leads h wi or (start .pre .0) P _ t k _ _ _ (start .pre .1 .1 .1 .0) (start .pre .1 .1 .1 .1) d) _ (charge .ensures) (if1 .left) }
 
 pub give-spec : {M : Type 1} → statement M
 give-spec =

@@ -4,7 +4,7 @@ use borrow.Author.Tests.{not-true, not-false}
 use lib.ListN.{length-set}
 use Rattle.engine.proofs.Turning.{settle-yes, settle-no, went-on}
 use Rattle.engine.proofs.Areas.{bears-push, bears-without}
-use Rattle.engine.proofs.Building.{block-few, block-wrong, block-leads, bears-block, bits-ref, without-length}
+use Rattle.engine.proofs.Building.{block-few, block-wrong, block-leads, bears-block, bits-ref, without-sp}
 use borrow.Author.Needs.{needs}
 use Rattle.engine.proofs.regs.Regs.mk_block.Statement.{statement}
 use Rattle.engine.proofs.regs.Regs.mk_block.Tie as tie
@@ -162,7 +162,7 @@ returns-3 c =
     let charge = c .before .before .before .before .before .before .charge in
     let if3 = c .before .before .before .before .before .if3 in
     let put-fields = c .before .before .put-fields in
-    λ wi or. record { each = λ ws hs h m n. settle-yes (block-leads (start .pre .0) h wi or _ _ _ (if1 .left) (sym (all-values .ensures ws (h .stack) m (h .sp)) ∙ not-false _ (if2 .left))) _ _ (charge .ensures) (if3 .taken) (λ a b. record { stack = bears-push _ _ _ _ _ (bears-without _ ws _ (h .stack)) (without-length (start .pre .0) h wi or _ (omega (arith, if1 .left))) (bits-ref _ _ (h .hp)) (omega (arith, start .pre .1 .0, a)); heap = bears-block (start .pre .0) h wi or _ _ _ _ _ (omega (arith, if1 .left)) (put-fields .ensures) refl refl refl (omega (arith, start .pre .1 .1 .0, b)); wires = refl; order = refl }) }
+    λ wi or. record { each = λ ws hs h m n. settle-yes (block-leads (start .pre .0) h wi or _ _ _ (if1 .left) (sym (all-values .ensures ws (h .stack) m (h .sp)) ∙ not-false _ (if2 .left))) _ _ (charge .ensures) (if3 .taken) (λ a b. record { stack = bears-push _ _ _ _ _ (bears-without _ ws _ (h .stack)) (without-sp (start .pre .0) h wi or _) (bits-ref _ _ (h .hp)) (omega (arith, start .pre .1 .0, a)); heap = bears-block (start .pre .0) h wi or _ _ _ _ _ (omega (arith, if1 .left)) (put-fields .ensures) refl refl refl (omega (arith, start .pre .1 .1 .0, b)); wires = refl; order = refl }) }
 
 -- src/builds.rt:45:5
 same-length-4 : tie.Need-same-length-4

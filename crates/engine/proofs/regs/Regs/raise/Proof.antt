@@ -22,7 +22,7 @@ returns c =
     let start = c .before .before .before .before in
     let if1 = c .before .if1 in
     let halt = c .halt in
-    λ P t k wi or d z. record { each = λ ws hs h m n. unhandled-stops (start .pre .0) h wi or P t k _ _ _ _ d (if1 .taken) (halt .ensures) }
+    λ P t k wi or d z. record { each = λ ws hs h m n. unhandled-stops h wi or _ P t k _ _ _ _ d (if1 .taken) (halt .ensures) }
 
 -- src/prims.rt:320:19
 add-next : tie.Need-add-next

@@ -18,7 +18,7 @@ returns : tie.Need-returns
 returns c =
     let start = c .before .before .before .before in
     let if1 = c .if1 in
-    (record { each = λ P ws hs wi or h m n. one-few (start .pre .0) h wi or P _ (if1 .taken) }, fair-fault _ 1)
+    (record { each = λ P ws hs wi or h m n. one-few h wi or P _ (if1 .taken) }, fair-fault _ 1)
 
 -- src/prims.rt:212:23
 sub-w : tie.Need-sub-w
@@ -38,7 +38,7 @@ returns-2 c =
     let start = c .before .before .before .before .before .before in
     let if1 = c .before .before .if1 in
     let if2 = c .if2 in
-    (record { each = λ P ws hs wi or h m n. one-no-ref (start .pre .0) h wi or P _ _ (reads-below h 0 _ (omega (arith, if1 .left)) refl) (small-below 0 m) (if1 .left) (if2 .taken) }, fair-fault _ 2)
+    (record { each = λ P ws hs wi or h m n. one-no-ref h wi or P _ _ (reads-below h 0 _ (omega (arith, if1 .left)) refl) (small-below 0 m) (if1 .left) (if2 .taken) }, fair-fault _ 2)
 
 -- src/prims.rt:216:17
 cast-p : tie.Need-cast-p
@@ -54,7 +54,7 @@ shared-slice-read-prim1 c =
     let start = c .before .before .before .before .before .before .before in
     let if1 = c .before .before .before .if1 in
     let if2 = c .before .if2 in
-    let p = start .pre .1 .1 .1 .each _ (omega (arith, if1 .left)) (if2 .left) in omega (arith, start .pre .1 .1 .0, start .pre .0 .hp)
+    let p = start .pre .1 .each _ (omega (arith, if1 .left)) (if2 .left) in omega (arith, start .pre .0 .2)
 
 -- src/prims.rt:217:39
 add-prim1 : tie.Need-add-prim1
@@ -70,7 +70,7 @@ shared-slice-read-prim1-2 c =
     let start = c .before .before .before .before .before .before .before .before in
     let if1 = c .before .before .before .before .if1 in
     let if2 = c .before .before .if2 in
-    let p = start .pre .1 .1 .1 .each _ (omega (arith, if1 .left)) (if2 .left) in omega (arith, start .pre .1 .1 .0, start .pre .0 .hp)
+    let p = start .pre .1 .each _ (omega (arith, if1 .left)) (if2 .left) in omega (arith, start .pre .0 .2)
 
 -- src/prims.rt:217:16
 prim1-requires : tie.Need-prim1-requires
@@ -92,7 +92,7 @@ returns-3 c =
     let if2 = c .before .before .before .before .if2 in
     let settle = c .settle in
     let prim1 = c .before .prim1 in
-    let p = start .pre .1 .1 .1 .each _ (omega (arith, if1 .left)) (if2 .left) in let o = settle .ensures ∙ ap (settled (start .args .self .sp - 1)) (prim1 .ensures) in (record { each = λ P ws hs wi or h m n. one-is (start .pre .0) h wi or P _ _ (reads-below h 0 _ (omega (arith, if1 .left)) refl) (small-below 0 m) _ _ (if1 .left) (if2 .left) p refl refl _ o }, fair-tried _ _ (tame-one _) _ _ _ _ o (omega (arith, if1 .left)) (omega (arith, if1 .left)))
+    let p = start .pre .1 .each _ (omega (arith, if1 .left)) (if2 .left) in let o = settle .ensures ∙ ap (settled (start .args .self .sp - 1)) (prim1 .ensures) in (record { each = λ P ws hs wi or h m n. one-is h wi or P _ _ (reads-below h 0 _ (omega (arith, if1 .left)) refl) (small-below 0 m) _ _ (if1 .left) (if2 .left) p refl refl _ o }, fair-tried _ _ (tame-one _) _ _ _ _ o (omega (arith, if1 .left)) (omega (arith, if1 .left)))
 
 pub try-one-spec : {M : Type 1} → statement M
 try-one-spec =

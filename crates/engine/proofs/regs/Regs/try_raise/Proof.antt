@@ -16,7 +16,7 @@ returns : tie.Need-returns
 returns c =
     let start = c .before .before .before in
     let if1 = c .if1 in
-    (λ he. record { each = λ P ws hs wi or h m n. raise-few (start .pre .0) h wi or P _ (if1 .taken) }, fair-fault _ 1)
+    (λ he. record { each = λ P ws hs wi or h m n. raise-few h wi or P _ (if1 .taken) }, fair-fault _ 1)
 
 -- src/prims.rt:258:23
 sub-w : tie.Need-sub-w
@@ -41,7 +41,7 @@ returns-2 c =
     let if1 = c .before .before .before .if1 in
     let is-value = c .before .is-value in
     let if2 = c .if2 in
-    (λ he. record { each = λ P ws hs wi or h m n. raise-wrong (start .pre .0) h wi or P _ (if1 .left) (sym (is-value .ensures _ (reads-below h 0 _ (omega (arith, if1 .left)) refl) (small-below 0 m)) ∙ not-true _ (if2 .taken)) }, fair-fault _ 2)
+    (λ he. record { each = λ P ws hs wi or h m n. raise-wrong h wi or P _ (if1 .left) (sym (is-value .ensures _ (reads-below h 0 _ (omega (arith, if1 .left)) refl) (small-below 0 m)) ∙ not-true _ (if2 .taken)) }, fair-fault _ 2)
 
 -- src/prims.rt:247:5
 returns-3 : tie.Need-returns-3
@@ -50,7 +50,7 @@ returns-3 c =
     let if1 = c .before .before .before .if1 in
     let is-value = c .before .is-value in
     let if2 = c .if2 in
-    (λ he. record { each = λ P ws hs wi or h m n. raise-is (start .pre .0) h wi or P _ _ (if1 .left) (sym (is-value .ensures _ (reads-below h 0 _ (omega (arith, if1 .left)) refl) (small-below 0 m)) ∙ not-false _ (if2 .left)) (reads-below h 0 _ (omega (arith, if1 .left)) refl) (small-below 0 m) }, fair-raises _ _ _ (start .pre .1 .1))
+    (λ he. record { each = λ P ws hs wi or h m n. raise-is h wi or P _ _ (if1 .left) (sym (is-value .ensures _ (reads-below h 0 _ (omega (arith, if1 .left)) refl) (small-below 0 m)) ∙ not-false _ (if2 .left)) (reads-below h 0 _ (omega (arith, if1 .left)) refl) (small-below 0 m) }, fair-raises _ _ _ (start .pre .1))
 
 pub try-raise-spec : {M : Type 1} → statement M
 try-raise-spec =

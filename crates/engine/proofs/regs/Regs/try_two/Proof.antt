@@ -22,7 +22,7 @@ returns : tie.Need-returns
 returns c =
     let start = c .before .before .before .before in
     let if1 = c .if1 in
-    (record { each = λ P ws hs wi or h m n. two-few (start .pre .0) h wi or P _ (if1 .taken) }, fair-fault _ 1)
+    (record { each = λ P ws hs wi or h m n. two-few h wi or P _ (if1 .taken) }, fair-fault _ 1)
 
 -- src/prims.rt:233:23
 sub-w : tie.Need-sub-w
@@ -54,7 +54,7 @@ returns-2 c =
     let start = c .before .before .before .before .before .before .before in
     let if1 = c .before .before .before .if1 in
     let if2 = c .if2 in
-    (record { each = λ P ws hs wi or h m n. two-no-first (start .pre .0) h wi or P _ _ _ (reads-below h 0 _ (omega (arith, if1 .left)) refl) (reads-below h 1 _ (omega (arith, if1 .left)) refl) (small-below 0 m) (small-below 1 m) (if1 .left) (if2 .taken) }, fair-fault _ 2)
+    (record { each = λ P ws hs wi or h m n. two-no-first h wi or P _ _ _ (reads-below h 0 _ (omega (arith, if1 .left)) refl) (reads-below h 1 _ (omega (arith, if1 .left)) refl) (small-below 0 m) (small-below 1 m) (if1 .left) (if2 .taken) }, fair-fault _ 2)
 
 -- src/prims.rt:239:13
 returns-3 : tie.Need-returns-3
@@ -62,7 +62,7 @@ returns-3 c =
     let start = c .before .before .before .before .before .before .before .before in
     let if1 = c .before .before .before .before .if1 in
     let if3 = c .if3 in
-    (record { each = λ P ws hs wi or h m n. two-no-second (start .pre .0) h wi or P _ _ _ (reads-below h 0 _ (omega (arith, if1 .left)) refl) (reads-below h 1 _ (omega (arith, if1 .left)) refl) (small-below 0 m) (small-below 1 m) (if1 .left) (if3 .taken) }, fair-fault _ 2)
+    (record { each = λ P ws hs wi or h m n. two-no-second h wi or P _ _ _ (reads-below h 0 _ (omega (arith, if1 .left)) refl) (reads-below h 1 _ (omega (arith, if1 .left)) refl) (small-below 0 m) (small-below 1 m) (if1 .left) (if3 .taken) }, fair-fault _ 2)
 
 -- src/prims.rt:241:17
 cast-p : tie.Need-cast-p
@@ -82,7 +82,7 @@ shared-slice-read-prim2 c =
     let start = c .before .before .before .before .before .before .before .before .before in
     let if1 = c .before .before .before .before .before .if1 in
     let if2 = c .before .before .if2 in
-    let p = start .pre .1 .1 .1 .each _ (omega (arith, if1 .left)) (if2 .left) in omega (arith, start .pre .1 .1 .0, start .pre .0 .hp)
+    let p = start .pre .1 .each _ (omega (arith, if1 .left)) (if2 .left) in omega (arith, start .pre .0 .2)
 
 -- src/prims.rt:243:39
 add-prim2 : tie.Need-add-prim2
@@ -98,7 +98,7 @@ shared-slice-read-prim2-2 c =
     let start = c .before .before .before .before .before .before .before .before .before .before in
     let if1 = c .before .before .before .before .before .before .if1 in
     let if2 = c .before .before .before .if2 in
-    let p = start .pre .1 .1 .1 .each _ (omega (arith, if1 .left)) (if2 .left) in omega (arith, start .pre .1 .1 .0, start .pre .0 .hp)
+    let p = start .pre .1 .each _ (omega (arith, if1 .left)) (if2 .left) in omega (arith, start .pre .0 .2)
 
 -- src/prims.rt:243:47
 mul-prim2-3 : tie.Need-mul-prim2-3
@@ -110,7 +110,7 @@ shared-slice-read-prim2-3 c =
     let start = c .before .before .before .before .before .before .before .before .before .before .before in
     let if1 = c .before .before .before .before .before .before .before .if1 in
     let if3 = c .before .before .before .if3 in
-    let p = start .pre .1 .1 .1 .each _ (omega (arith, if1 .left)) (if3 .left) in omega (arith, start .pre .1 .1 .0, start .pre .0 .hp)
+    let p = start .pre .1 .each _ (omega (arith, if1 .left)) (if3 .left) in omega (arith, start .pre .0 .2)
 
 -- src/prims.rt:243:61
 add-prim2-2 : tie.Need-add-prim2-2
@@ -126,7 +126,7 @@ shared-slice-read-prim2-4 c =
     let start = c .before .before .before .before .before .before .before .before .before .before .before .before in
     let if1 = c .before .before .before .before .before .before .before .before .if1 in
     let if3 = c .before .before .before .before .if3 in
-    let p = start .pre .1 .1 .1 .each _ (omega (arith, if1 .left)) (if3 .left) in omega (arith, start .pre .1 .1 .0, start .pre .0 .hp)
+    let p = start .pre .1 .each _ (omega (arith, if1 .left)) (if3 .left) in omega (arith, start .pre .0 .2)
 
 -- src/prims.rt:243:16
 prim2-requires : tie.Need-prim2-requires
@@ -149,7 +149,7 @@ returns-4 c =
     let if3 = c .before .before .before .before .before .before .if3 in
     let settle = c .settle in
     let prim2 = c .before .prim2 in
-    let p = start .pre .1 .1 .1 .each _ (omega (arith, if1 .left)) (if2 .left) in let q = start .pre .1 .1 .1 .each _ (omega (arith, if1 .left)) (if3 .left) in let o = settle .ensures ∙ ap (settled (start .args .self .sp - 2)) (prim2 .ensures) in (record { each = λ P ws hs wi or h m n. two-is (start .pre .0) h wi or P _ _ _ (reads-below h 0 _ (omega (arith, if1 .left)) refl) (reads-below h 1 _ (omega (arith, if1 .left)) refl) (small-below 0 m) (small-below 1 m) (if1 .left) _ _ _ _ (if2 .left) (if3 .left) p q refl refl refl refl _ o }, fair-tried _ _ (tame-two _) _ _ _ _ o (omega (arith, if1 .left)) (omega (arith, if1 .left)))
+    let p = start .pre .1 .each _ (omega (arith, if1 .left)) (if2 .left) in let q = start .pre .1 .each _ (omega (arith, if1 .left)) (if3 .left) in let o = settle .ensures ∙ ap (settled (start .args .self .sp - 2)) (prim2 .ensures) in (record { each = λ P ws hs wi or h m n. two-is h wi or P _ _ _ (reads-below h 0 _ (omega (arith, if1 .left)) refl) (reads-below h 1 _ (omega (arith, if1 .left)) refl) (small-below 0 m) (small-below 1 m) (if1 .left) _ _ _ _ (if2 .left) (if3 .left) p q refl refl refl refl _ o }, fair-tried _ _ (tame-two _) _ _ _ _ o (omega (arith, if1 .left)) (omega (arith, if1 .left)))
 
 pub try-two-spec : {M : Type 1} → statement M
 try-two-spec =
