@@ -342,8 +342,8 @@ module _ {lim : Limits} {r : Regs} (f : Fit lim r) {st he : List ℕ} {ws hs : L
             bears-placed st g (without 1 ws) fields (r .sp - 1) n (fromPlace he (w % 2 ^ 28 + 2))
             (bears-without st ws 1 (h .stack)) p (without-sp 1) fields-length o
             (λ i j.
-                h .heap .get (w % 2 ^ 28 + 2 + i) (omega (arith, h .hp))
-                ∙ ap bits
-                (sym (getD-drop (w % 2 ^ 28 + 2) hs i null)
-                ∙ sym (getD-take n (drop (w % 2 ^ 28 + 2) hs) i null j)
-                ∙ ap (λ (a : List Word). getD a i null) (sym fields-are)))
+            h .heap .get (w % 2 ^ 28 + 2 + i) (omega (arith, h .hp))
+            ∙ ap bits
+            (sym (getD-drop (w % 2 ^ 28 + 2) hs i null)
+            ∙ sym (getD-take n (drop (w % 2 ^ 28 + 2) hs) i null j)
+            ∙ ap (λ (a : List Word). getD a i null) (sym fields-are)))

@@ -50,7 +50,7 @@ frames-whole {hs = hs} (frame ws fp lower upper prev n e q j k p d g) i t =
         let m : ℕ = i - (length lower + 1) in
         let c : i ≡ length lower + suc m = omega (arith, a, b) in
         let z : getD (lower ++ link prev n ∷ upper) i null ≡ getD upper m null =
-            ap (λ (x : ℕ). getD (lower ++ link prev n ∷ upper) x null) c ∙ getD-append-add lower (link prev n ∷ upper) (suc m) null in
+        ap (λ (x : ℕ). getD (lower ++ link prev n ∷ upper) x null) c ∙ getD-append-add lower (link prev n ∷ upper) (suc m) null in
         subst (λ (x : Word). Whole hs (x .payload)) (sym z)
         (plain-whole (getD upper m null) (p .each m) (ap (λ (x : Word). x .type) (sym z) ∙ s))
 
@@ -72,9 +72,9 @@ module _ {P : Program} {r : Regs} {st he : List ℕ} {ws hs : List Word} (h : Ho
             let o = refers i k t in
             let z = whole-inside o in
             let a : getD he (getD st i 0 % 2 ^ 28) 0 ≡ bits (getD hs (getD st i 0 % 2 ^ 28) null) =
-                h .heap .get (getD st i 0 % 2 ^ 28) (omega (arith, z)) in
+            h .heap .get (getD st i 0 % 2 ^ 28) (omega (arith, z)) in
             let b : getD he (getD st i 0 % 2 ^ 28 + 1) 0 ≡ bits (getD hs (getD st i 0 % 2 ^ 28 + 1) null) =
-                h .heap .get (getD st i 0 % 2 ^ 28 + 1) (omega (arith, z)) in
+            h .heap .get (getD st i 0 % 2 ^ 28 + 1) (omega (arith, z)) in
             let y = whole-block o (omega (arith, a, l)) .inside in
             omega (arith, y, b, h .hp);
       }

@@ -252,38 +252,86 @@ tames-at (p ∷ ps) t (suc i) = tames-at ps (t .1) i
 
 tames-one : Tames oneOperand
 unfolding oneOperand
-tames-one =
-    (tame-value _ _ (λ x y. refl),
-    (tame-value _ _ (λ x y. refl),
-    (record { each = λ x y e q. tame-cut (toInt x) e q },
-    tt)))
+tames-one = (
+  tame-value _ _ (λ x y. refl),
+  (
+    tame-value _ _ (λ x y. refl),
+    (
+      record { each = λ x y e q. tame-cut (toInt x) e q },
+      tt,
+    ),
+  ),
+)
 
 tames-two : Tames twoOperands
 unfolding twoOperands
-tames-two =
-    (tame-value _ _ (λ x y. refl),
-    (tame-value _ _ (λ x y. refl),
-    (tame-value _ _ (λ x y. refl),
-    (tame-value _ _ (λ x y. refl),
-    (tame-value _ _ (λ x y. refl),
-    (tame-value _ _ (λ x y. refl),
-    (tame-value _ _ (λ x y. refl),
-    (tame-value _ _ (λ x y. refl),
-    (tame-value _ _ (λ x y. refl),
-    (tame-divided _ _,
-    (tame-divided _ _,
-    (tame-value _ _ (λ x y. refl),
-    (tame-value _ _ (λ x y. refl),
-    (tame-value _ _ (λ x y. refl),
-    (tame-value _ _ (λ x y. refl),
-    (tame-value _ _ (λ x y. refl),
-    (tame-value _ _ (λ x y. refl),
-    (tame-value _ _ (λ x y. refl),
-    (tame-value _ _ (λ x y. refl),
-    (tame-value _ _ (λ x y. refl),
-    (tame-value _ _ (λ x y. refl),
-    (tame-value _ _ (λ x y. refl),
-    tt))))))))))))))))))))))
+tames-two = (
+  tame-value _ _ (λ x y. refl),
+  (
+    tame-value _ _ (λ x y. refl),
+    (
+      tame-value _ _ (λ x y. refl),
+      (
+        tame-value _ _ (λ x y. refl),
+        (
+          tame-value _ _ (λ x y. refl),
+          (
+            tame-value _ _ (λ x y. refl),
+            (
+              tame-value _ _ (λ x y. refl),
+              (
+                tame-value _ _ (λ x y. refl),
+                (
+                  tame-value _ _ (λ x y. refl),
+                  (
+                    tame-divided _ _,
+                    (
+                      tame-divided _ _,
+                      (
+                        tame-value _ _ (λ x y. refl),
+                        (
+                          tame-value _ _ (λ x y. refl),
+                          (
+                            tame-value _ _ (λ x y. refl),
+                            (
+                              tame-value _ _ (λ x y. refl),
+                              (
+                                tame-value _ _ (λ x y. refl),
+                                (
+                                  tame-value _ _ (λ x y. refl),
+                                  (
+                                    tame-value _ _ (λ x y. refl),
+                                    (
+                                      tame-value _ _ (λ x y. refl),
+                                      (
+                                        tame-value _ _ (λ x y. refl),
+                                        (
+                                          tame-value _ _ (λ x y. refl),
+                                          (
+                                            tame-value _ _ (λ x y. refl),
+                                            tt,
+                                          ),
+                                        ),
+                                      ),
+                                    ),
+                                  ),
+                                ),
+                              ),
+                            ),
+                          ),
+                        ),
+                      ),
+                    ),
+                  ),
+                ),
+              ),
+            ),
+          ),
+        ),
+      ),
+    ),
+  ),
+)
 
 pub tame-one : (a : ℕ) → Tame (prim1 a)
 unfolding prim1
@@ -475,9 +523,9 @@ bears-thrown l n p e h =
     let b1 : Bears (set l 0 n) (ref p ∷ []) = bears-push l [] (ref p) 0 n b0 refl e (omega arith) in
     let b2 : Bears (set (set l 0 n) 1 0) (ref p ∷ null ∷ []) = bears-push (set l 0 n) (ref p ∷ []) null 1 0 b1 refl refl (simp length-set (omega arith)) in
     let b3 : Bears (set (set (set l 0 n) 1 0) 2 0) (ref p ∷ null ∷ null ∷ []) =
-        bears-push (set (set l 0 n) 1 0) (ref p ∷ null ∷ []) null 2 0 b2 refl refl (simp length-set (omega arith)) in
+    bears-push (set (set l 0 n) 1 0) (ref p ∷ null ∷ []) null 2 0 b2 refl refl (simp length-set (omega arith)) in
     let b4 : Bears (set (set (set (set l 0 n) 1 0) 2 0) 3 0) (ref p ∷ null ∷ null ∷ null ∷ []) =
-        bears-push (set (set (set l 0 n) 1 0) 2 0) (ref p ∷ null ∷ null ∷ []) null 3 0 b3 refl refl (simp length-set (omega arith)) in
+    bears-push (set (set (set l 0 n) 1 0) 2 0) (ref p ∷ null ∷ null ∷ []) null 3 0 b3 refl refl (simp length-set (omega arith)) in
     bears-push (set (set (set (set l 0 n) 1 0) 2 0) 3 0) (ref p ∷ null ∷ null ∷ null ∷ []) (link 0 0) 4 1610612736 b4 refl refl (simp length-set (omega arith))
 
 -- an exception's three words
@@ -516,10 +564,10 @@ module _ {r : Regs} {st he : List ℕ} {ws hs : List Word} (h : Holds r st he ws
       lead-grown t (core r ws hs wi or false) (entered r handler entry) cost k (raw (exnHeader e) ∷ raw 1 ∷ raw w ∷ [])
       (pick-false (eqb (P .handler) 255) _ _ (λ z. n (sym i ∙ eqb→eq (P .handler) 255 z))
       ∙ (λ y. goes k
-          (leaving (core r ws hs wi or false)
-          (record { pc = j y; fp = 5; slp = 0; rp = 0; mp = r .mp; inp = r .inp; rs = i y })
-          (thrown (length hs))
-          (raw (exnHeader e) ∷ raw 1 ∷ raw w ∷ []))))
+      (leaving (core r ws hs wi or false)
+      (record { pc = j y; fp = 5; slp = 0; rp = 0; mp = r .mp; inp = r .inp; rs = i y })
+      (thrown (length hs))
+      (raw (exnHeader e) ∷ raw 1 ∷ raw w ∷ []))))
       c refl (ap (λ (y : ℕ). y + 3) (h .hp)) refl
 
 -- ---- the application whole

@@ -40,8 +40,31 @@ ghost use Rattle.engine.specs.declared.prims.Outcome.the-variants as out
 // ---- one primitive
 
 // "cycles from Table 5 .. These are kept as one table of costs by primitive number": those of one operand, then those of two.
-const CYCLES: [u32; 25] = [
-    118, 699, 2973, 125, 243, 122, 124, 122, 124, 116, 116, 124, 206, 1294, 153, 156, 125, 211, 209, 211, 209, 1106, 1112, 356,
+const CYCLES: [u16; 25] = [
+    118,
+    699,
+    2973,
+    125,
+    243,
+    122,
+    124,
+    122,
+    124,
+    116,
+    116,
+    124,
+    206,
+    1294,
+    153,
+    156,
+    125,
+    211,
+    209,
+    211,
+    209,
+    1106,
+    1112,
+    356,
     959,
 ];
 
@@ -182,7 +205,7 @@ fn settle(y: Yielded, low: usize) -> Outcome
 }
 
 // The cycles of a primitive besides the card's, and none for Raise.
-fn cycles(op: usize, a: usize) -> u32
+fn cycles(op: usize, a: usize) -> u16
     requires { ⌜ Applies op a ⌝ }
     ensures { λ r. ⌜ Cycles op a r ⌝ }
 {
@@ -273,7 +296,16 @@ impl Regs {
     }
 
     // "result 2 heap words", in the place of the operands
-    fn give(self, lim: Limits, cost: usize, low: usize, h: u32, x: u32, stack: &mut [u32], heap: &mut [u32]) -> Turn
+    fn give(
+        self,
+        lim: Limits,
+        cost: usize,
+        low: usize,
+        h: u32,
+        x: u32,
+        stack: &mut [u32],
+        heap: &mut [u32],
+    ) -> Turn
         requires { ⌜ Fit lim self ⌝ }
         requires { ⌜ lim .stack ≤ length (now stack) ⌝ }
         requires { ⌜ lim .heap ≤ length (now heap) ⌝ }
@@ -296,7 +328,17 @@ impl Regs {
 
     // "the stack becomes the exception, three nulls and a frame link with fp 0 and n 0; fp = 5, slp 0; the handler is entered
     // with rp 0"; "4 exception (number) with no handler"
-    fn raise(self, lim: Limits, cost: usize, e: u32, w: u32, handler: usize, entry: usize, stack: &mut [u32], heap: &mut [u32]) -> Turn
+    fn raise(
+        self,
+        lim: Limits,
+        cost: usize,
+        e: u32,
+        w: u32,
+        handler: usize,
+        entry: usize,
+        stack: &mut [u32],
+        heap: &mut [u32],
+    ) -> Turn
         requires { ⌜ Fit lim self ⌝ }
         requires { ⌜ lim .stack ≤ length (now stack) ⌝ }
         requires { ⌜ lim .heap ≤ length (now heap) ⌝ }
@@ -331,7 +373,18 @@ impl Regs {
     }
 
     // 19 CallPrim1, 20 CallPrim2 and 21 Raise.
-    pub(crate) fn apply(self, lim: Limits, cost: usize, op: usize, a: usize, b: u32, handler: usize, entry: usize, stack: &mut [u32], heap: &mut [u32]) -> Turn
+    pub(crate) fn apply(
+        self,
+        lim: Limits,
+        cost: usize,
+        op: usize,
+        a: usize,
+        b: u32,
+        handler: usize,
+        entry: usize,
+        stack: &mut [u32],
+        heap: &mut [u32],
+    ) -> Turn
         requires { ⌜ Fit lim self ⌝ }
         requires { ⌜ lim .stack ≤ length (now stack) ⌝ }
         requires { ⌜ lim .heap ≤ length (now heap) ⌝ }
