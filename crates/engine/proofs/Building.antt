@@ -1,27 +1,26 @@
 -- What the instructions that make objects, or take them apart, lead to.
 use mathlib.Core.Path.{_≡_, refl, sym, ap, _∙_, subst}
-use mathlib.Core.Bool.{Bool, true, false, _&&_, _||_, true≢false, false≢true}
+use mathlib.Core.Bool.{true, false, _||_, true≢false}
 use mathlib.Core.List.{List, [], _∷_, _++_, append-assoc}
-use Prim.Native.Nat.{ℕ, zero, suc, _+_, _-_, _*_, _/_, _%_, _^_, _≤_, _<_}
+use Prim.Native.Nat.{ℕ, zero, suc, _+_, _-_, _/_, _%_, _^_, _≤_, _<_}
 use native.Mathlib.Nat.{not-suc-le-zero}
 use native.Mathlib.Decide.{ℕ-discrete, decLe}
 use native.Mathlib.Omega.{arith}
-use lib.Dec.{T, eqb, eqb→eq, leb, leb→le, le→leb}
+use lib.Dec.{eqb, eqb→eq, leb, leb→le, le→leb}
 use lib.ListN.{length, getD, set, take, drop, length-append, length-set, length-drop, List·getD-append}
 use lib.Seq.{length-take-le, getD-take, getD-drop, getD-set-same, getD-set-other, getD-append-add}
-use Rattle.limits.specs.Machine.{Act, ends, goes}
-use Rattle.hume.specs.Words.{Word, null, ref, raw, bits, isRef, isValue, boolHeader, intHeader, floatHeader, tupleHeader, constrHeader}
+use Rattle.hume.specs.Words.{Word, null, ref, raw, bits, isValue, boolHeader, intHeader, floatHeader, tupleHeader, constrHeader}
 use Rattle.hume.specs.Numbers.{canonical}
 use Rattle.hume.specs.Tests.{all}
-use Rattle.hume.specs.State.{State, Deed, fault, values, locals, without, need, builds, stacks, below, downward, hp, numberAt, second}
+use Rattle.hume.specs.State.{State, Deed, fault, values, locals, without, builds, below, downward, hp, numberAt, second}
 use Rattle.hume.specs.Machine.{charged}
 use Rattle.hume.specs.Instructions.{MkBool, MkInt, MkFloat, MkTuple, MkCon, mkBlock, isTupleOrConstr, Unpack}
 use Rattle.laws.specs.Sizes.{Small}
 use Rattle.laws.proofs.Deeds.{need-yes, need-no}
 use Rattle.laws.proofs.Tests.{of-true, to-true, OneOf, one, other, or-cases}
 use Rattle.laws.proofs.Words.{bits-raw}
-use Rattle.engine.specs.Fits.{Fit, Refs}
-use Rattle.engine.specs.Blocks.{Blocks, making, Placed, fromTop, fromPlace}
+use Rattle.engine.specs.Fits.{Fit}
+use Rattle.engine.specs.Blocks.{making, Placed, fromTop, fromPlace}
 use Rattle.engine.specs.Turns.{Bears, Smalls, core, Holds, halt, Buffers, Turned, priced}
 use Rattle.engine.specs.declared.Ending.the-variants as ending
 use Rattle.engine.specs.declared.regs.Limits.{Limits}
@@ -58,7 +57,8 @@ mk-con a b s = refl
 -- ---- areas
 
 -- two words more
-pub bears-two : (l : List ℕ) (ws : List Word) (v w : Word) (i j m n : ℕ) → Bears l ws → i ≡ length ws → j ≡ i + 1 → m ≡ bits v → n ≡ bits w → j < length l
+pub bears-two : (l : List ℕ) (ws : List Word) (v w : Word) (i j m n : ℕ) → Bears l ws → i ≡ length ws → j ≡ i + 1
+    → m ≡ bits v → n ≡ bits w → j < length l
     → Bears (set (set l i m) j n) (ws ++ v ∷ w ∷ [])
 bears-two l ws v w i j m n b e f p q h =
     let z : length (ws ++ v ∷ []) ≡ length ws + 1 = length-append ws (v ∷ []) in
@@ -112,7 +112,8 @@ placed-more l m at n x f p e h =
     by i k (no q) = getD-set-other m (at + n) (at + i) x 0 (λ z. q (omega (arith, z))) ∙ p .put i (omega (arith, q))
 
 -- an area bears the words that were moved to its end
-pub bears-placed : (l m : List ℕ) (ws vs : List Word) (at n : ℕ) (f : ℕ → ℕ) → Bears l ws → Placed l m at n f → at ≡ length ws → n ≡ length vs
+pub bears-placed : (l m : List ℕ) (ws vs : List Word) (at n : ℕ) (f : ℕ → ℕ) → Bears l ws → Placed l m at n f
+    → at ≡ length ws → n ≡ length vs
     → at + n ≤ length l → ((i : ℕ) → i < n → f i ≡ bits (getD vs i null)) → Bears m (ws ++ vs)
 bears-placed l m ws vs at n f b p e q h g =
     let a = length-append ws vs in
@@ -156,11 +157,13 @@ downward-get ws i (suc n) zero h = ap (below ws) (let z : i ≡ i + 0 = omega ar
 downward-get ws i (suc n) (suc j) h =
     downward-get ws (i + 1) n j (omega (arith, h)) ∙ ap (below ws) (let z : i + 1 + j ≡ i + suc j = omega arith in z)
 
-downward-step : (ws : List Word) (i a : ℕ) → i < a → downward ws i (a - i) ≡ below ws i ∷ downward ws (i + 1) (a - (i + 1))
+downward-step : (ws : List Word) (i a : ℕ) → i < a
+    → downward ws i (a - i) ≡ below ws i ∷ downward ws (i + 1) (a - (i + 1))
 unfolding downward
 downward-step ws i a h = ap (downward ws i) (let z : a - i ≡ suc (a - (i + 1)) = omega arith in z)
 
-pub values-stop : (ws : List Word) (i a : ℕ) → i < a → isValue (below ws i) ≡ false → all isValue (downward ws i (a - i)) ≡ false
+pub values-stop : (ws : List Word) (i a : ℕ) → i < a → isValue (below ws i) ≡ false
+    → all isValue (downward ws i (a - i)) ≡ false
 unfolding all
 values-stop ws i a h e = ap (all isValue) (downward-step ws i a h) ∙ rw e
 
@@ -200,7 +203,8 @@ module _ {lim : Limits} {r : Regs} (f : Fit lim r) {st he : List ℕ} {ws hs : L
   s = core r ws hs wi or false
 
   -- an object of the words g, its reference on top of the lower n words
-  pub builds-lead : (cost t k n m : ℕ) (lower g : List Word) {d : Deed} → d ≡ builds s k lower g → t ≡ cost + k → n ≡ length lower
+  pub builds-lead : (cost t k n m : ℕ) (lower g : List Word) {d : Deed} → d ≡ builds s k lower g → t ≡ cost + k
+      → n ≡ length lower
       → r .fp ≤ n → locals (r .fp) lower ≡ locals (r .fp) ws → m ≡ r .hp + length g
       → Leads t (charged cost s d) (built r (n + 1) m) (lower ++ ref (hp s) ∷ []) (hs ++ g) wi or
   builds-lead cost t k n m lower g p e q low same z =
@@ -211,7 +215,8 @@ module _ {lim : Limits} {r : Regs} (f : Fit lim r) {st he : List ℕ} {ws hs : L
       ∙ ap (λ (x : ℕ). r .fp + x)
       (sym (locals-append (r .fp) lower (ref (hp s) ∷ []) (subst (λ (x : ℕ). r .fp ≤ x) q low) ∙ same)))
 
-  pub making-leads : (cost x c : ℕ) → Leads cost (priced cost (making x c) s) (built r (r .sp + 1) (r .hp + 2)) (ws ++ ref (hp s) ∷ []) (hs ++ raw x ∷ raw c ∷ []) wi or
+  pub making-leads : (cost x c : ℕ)
+      → Leads cost (priced cost (making x c) s) (built r (r .sp + 1) (r .hp + 2)) (ws ++ ref (hp s) ∷ []) (hs ++ raw x ∷ raw c ∷ []) wi or
   making-leads cost x c =
       builds-lead cost cost 0 (r .sp) (r .hp + 2) ws (raw x ∷ raw c ∷ []) refl (omega arith) (h .sp)
       (omega (arith, f .fp, f .lp)) refl refl
@@ -249,7 +254,8 @@ module _ {lim : Limits} {r : Regs} (f : Fit lim r) {st he : List ℕ} {ws hs : L
       (let z = downward-length ws 0 a in omega arith)
 
   -- the heap bears the object whose fields the loop moved
-  pub bears-block : (x a i j n : ℕ) {m : List ℕ} → a ≤ r .sp → Placed (set (set he i x) j n) m (r .hp + 2) a (fromTop st (r .sp)) → i ≡ r .hp → j ≡ i + 1 → n ≡ a
+  pub bears-block : (x a i j n : ℕ) {m : List ℕ} → a ≤ r .sp
+      → Placed (set (set he i x) j n) m (r .hp + 2) a (fromTop st (r .sp)) → i ≡ r .hp → j ≡ i + 1 → n ≡ a
       → r .hp + 2 + a ≤ length he → Bears m (hs ++ raw x ∷ raw a ∷ downward ws 0 a)
   bears-block x a i j n {m} k p e q d room =
       let z = length-append hs (raw x ∷ raw a ∷ []) in
@@ -272,7 +278,8 @@ module _ {lim : Limits} {r : Regs} (f : Fit lim r) {st he : List ℕ} {ws hs : L
       (λ t. let v : 1 ≤ r .sp - r .lp = rw (values-are h wi or false) at (leb→le 1 (values s) t) in omega arith))
       e
 
-  unpack-stops : (cost : ℕ) {b : Buffers} {q : Turn} → r .lp < r .sp → isTupleOrConstr hs (below ws 0) ≡ false → q ≡ halt r (ending.Fault 2)
+  unpack-stops : (cost : ℕ) {b : Buffers} {q : Turn} → r .lp < r .sp → isTupleOrConstr hs (below ws 0) ≡ false
+      → q ≡ halt r (ending.Fault 2)
       → Turned lim r b (priced cost Unpack s) q b
   unfolding Unpack
   unpack-stops cost {b} {q} k v e =
@@ -336,7 +343,8 @@ module _ {lim : Limits} {r : Regs} (f : Fit lim r) {st he : List ℕ} {ws hs : L
             (sym (locals-append (r .fp) (without 1 ws) fields (let a = without-sp 1 in omega (arith, f .fp, f .lp))
             ∙ locals-without (r .fp) 1 ws (omega (arith, h .sp, f .fp, f .lp)))))
 
-        pub bears-unpacked : {g : List ℕ} → Placed st g (r .sp - 1) n (fromPlace he (w % 2 ^ 28 + 2)) → r .sp - 1 + n ≤ length st
+        pub bears-unpacked : {g : List ℕ} → Placed st g (r .sp - 1) n (fromPlace he (w % 2 ^ 28 + 2))
+            → r .sp - 1 + n ≤ length st
             → Bears g (without 1 ws ++ fields)
         bears-unpacked {g} p o =
             bears-placed st g (without 1 ws) fields (r .sp - 1) n (fromPlace he (w % 2 ^ 28 + 2))

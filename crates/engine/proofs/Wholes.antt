@@ -4,16 +4,16 @@ use mathlib.Core.List.{List, _∷_, _++_}
 use Prim.Native.Nat.{ℕ, suc, _+_, _-_, _/_, _%_, _^_, _≤_, _<_}
 use native.Mathlib.Decide.{ℕ-discrete, decLe}
 use native.Mathlib.Omega.{arith}
-use lib.ListN.{length, getD, length-append, List·getD-append}
+use lib.ListN.{length, getD, List·getD-append}
 use lib.Seq.{getD-at, getD-append-add}
-use Rattle.hume.specs.Words.{Word, null, none, ref, ret, rules, static, link, bits}
+use Rattle.hume.specs.Words.{Word, null, link, bits}
 use Rattle.hume.specs.Image.{Program}
 use Rattle.laws.specs.Whole.{Whole}
 use Rattle.laws.proofs.Objects.{whole-inside, whole-block}
-use Rattle.reach.specs.Sound.{Plain, Plains, Frames, bottom, frame, isNull, isRef, isNone, isRet, isRules, isStatic}
+use Rattle.reach.specs.Sound.{Plain, Frames, bottom, frame, isNull, isRef, isNone, isRet, isRules, isStatic}
 use Rattle.engine.specs.Fits.{Refs}
 use Rattle.engine.specs.Blocks.{Blocks}
-use Rattle.engine.specs.Turns.{Bears, Smalls, Holds}
+use Rattle.engine.specs.Turns.{Smalls, Holds}
 use Rattle.engine.specs.declared.regs.Regs.{Regs}
 use Rattle.engine.proofs.WordKinds.{type-is, payload-is}
 
@@ -35,7 +35,8 @@ frames-whole {hs = hs} (frame ws fp lower upper prev n e q j k p d g) i t =
     (by (decLe (length lower) i) (ℕ-discrete i (length lower)) (λ s. frames-whole g i s)
     (subst (λ (x : List Word). getD x i null .type ≡ 1) e t))
   where
-    by : Dec (length lower ≤ i) → Dec (i ≡ length lower) → (getD lower i null .type ≡ 1 → Whole hs (getD lower i null .payload))
+    by : Dec (length lower ≤ i) → Dec (i ≡ length lower)
+        → (getD lower i null .type ≡ 1 → Whole hs (getD lower i null .payload))
         → getD (lower ++ link prev n ∷ upper) i null .type ≡ 1
         → Whole hs (getD (lower ++ link prev n ∷ upper) i null .payload)
     by (no a) b r s =

@@ -1,4 +1,3 @@
-use mathlib.Core.Path.{_≡_, refl, sym}
 use borrow.Author.Tests.{eq-eqb, ne-eqb}
 use Rattle.engine.proofs.builds.is_block.Statement.{statement}
 use Rattle.engine.proofs.builds.is_block.Tie as tie

@@ -1,7 +1,6 @@
-use mathlib.Core.Path.{_≡_, refl}
+use mathlib.Core.Path.{refl}
 use native.Mathlib.Omega.{arith}
-use Prim.Native.Nat.{ℕ, _+_, _-_, _≤_}
-use lib.ListN.{length}
+use Prim.Native.Nat.{_-_, _≤_}
 use Rattle.engine.specs.Blocks.{Placed, fromPlace}
 use Rattle.engine.proofs.Building.{placed-none, placed-more, placed-all}
 use Rattle.engine.proofs.builds.put_words.Statement.{statement}

@@ -1,4 +1,3 @@
-use mathlib.Core.Path.{_≡_}
 use native.Mathlib.Omega.{arith}
 use Rattle.engine.proofs.Yielding.{cycles-one, cycles-two}
 use borrow.Author.Needs.{needs}

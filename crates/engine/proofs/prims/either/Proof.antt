@@ -1,4 +1,4 @@
-use mathlib.Core.Path.{_≡_, _∙_}
+use mathlib.Core.Path.{_∙_}
 use Rattle.engine.proofs.Yielding.{or-yes, or-no}
 use borrow.Author.Needs.{needs}
 use Rattle.engine.proofs.prims.either.Statement.{statement}

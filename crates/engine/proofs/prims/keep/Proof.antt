@@ -1,4 +1,3 @@
-use mathlib.Core.Path.{_≡_, refl}
 use borrow.Author.Tests.{eq-eqb, ne-eqb}
 use Rattle.hume.specs.Tests.{pick}
 use Rattle.engine.specs.Outcomes.{kept}

@@ -1,4 +1,4 @@
-use mathlib.Core.Path.{_≡_, refl, _∙_, ap}
+use mathlib.Core.Path.{refl, _∙_, ap}
 use native.Mathlib.Omega.{arith}
 use Rattle.hume.specs.Numbers.{divInt, modInt}
 use Rattle.hume.specs.Primitives.{truth, prim2, twoOperands}

@@ -1,4 +1,4 @@
-use mathlib.Core.Path.{_≡_, refl, _∙_, ap, sym}
+use mathlib.Core.Path.{refl, ap}
 use native.Mathlib.Omega.{arith}
 use Rattle.hume.specs.Primitives.{prim1, oneOperand, isTrue}
 use Rattle.engine.proofs.Yielding.{arm, arm-cut, arm-none, first-one, beyond-one, avoids}

@@ -1,4 +1,3 @@
-use mathlib.Core.Path.{_≡_, refl}
 use borrow.Author.Needs.{needs}
 use Rattle.engine.proofs.prims.settle.Statement.{statement}
 use Rattle.engine.proofs.prims.settle.Tie as tie
