@@ -6,4 +6,4 @@ pub mod Stores
 pub mod Moving
 pub mod Building
 pub mod Yielding
-pub mod Wholes
+pub mod Granted

@@ -40,6 +40,7 @@ ghost use Rattle.engine.specs.declared.prims.Outcome.the-variants as out
 // ---- one primitive
 
 // "cycles from Table 5 .. These are kept as one table of costs by primitive number": those of one operand, then those of two.
+// In 16 bits, since the compiler copies the table where it is read.
 const CYCLES: [u16; 25] = [
     118,
     699,
@@ -76,6 +77,7 @@ enum Yielded {
     Wrong,
 }
 
+// A Bool's payload.
 fn truth(b: bool) -> u32
     ensures { λ r. ⌜ r ≡ truthOf b ⌝ }
 {
@@ -175,6 +177,7 @@ fn pair(a: usize, h: u32, x: u32, y: u32) -> Yielded
     }
 }
 
+// "the top word being the first operand": its header h0 and payload x, and those of the second.
 fn prim2(a: usize, h0: u32, x: u32, h1: u32, y: u32) -> Yielded
     ensures { λ r. ⌜ r ≡ tried (primitive2 a) (eqb h0 (primitive2 a .takes) && eqb h1 (primitive2 a .takes)) x y ⌝ }
 {
@@ -280,6 +283,7 @@ impl Regs {
         Outcome::Raises(b, w)
     }
 
+    // By opcode.
     fn try_any(self, op: usize, a: usize, b: u32, stack: &[u32], heap: &[u32]) -> Outcome
         requires { ⌜ (self .lp ≤ self .sp) × (self .sp ≤ length (now stack)) × (self .hp ≤ length (now heap)) ⌝ }
         requires { ⌜ Refs self (now stack) ⌝ }

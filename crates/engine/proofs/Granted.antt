@@ -1,18 +1,25 @@
--- The references of a state that is reached are to whole objects, as the instructions that follow them need.
+-- What states that are reached and images that are accepted grant to the instructions here: the references are to whole
+-- objects, and the primitives exist.
 use mathlib.Core.Path.{_≡_, sym, ap, _∙_, subst}
+use mathlib.Core.Bool.{_&&_}
 use mathlib.Core.List.{List, _∷_, _++_}
 use Prim.Native.Nat.{ℕ, suc, _+_, _-_, _/_, _%_, _^_, _≤_, _<_}
 use native.Mathlib.Decide.{ℕ-discrete, decLe}
 use native.Mathlib.Omega.{arith}
+use lib.Dec.{T, leb, leb→le}
 use lib.ListN.{length, getD, List·getD-append}
 use lib.Seq.{getD-at, getD-append-add}
 use Rattle.hume.specs.Words.{Word, null, link, bits}
 use Rattle.hume.specs.Image.{Program}
+use Rattle.hume.specs.Refusals.{fieldOk, format, formatOf}
+use Rattle.laws.specs.Accepted.{InstructionFits}
 use Rattle.laws.specs.Whole.{Whole}
 use Rattle.laws.proofs.Objects.{whole-inside, whole-block}
+use Rattle.laws.proofs.Tests.{and-left, and-right}
 use Rattle.reach.specs.Sound.{Plain, Frames, bottom, frame, isNull, isRef, isNone, isRet, isRules, isStatic}
 use Rattle.engine.specs.Fits.{Refs}
 use Rattle.engine.specs.Blocks.{Blocks}
+use Rattle.engine.specs.Outcomes.{Applies}
 use Rattle.engine.specs.Turns.{Smalls, Holds}
 use Rattle.engine.specs.declared.regs.Regs.{Regs}
 use Rattle.engine.proofs.WordKinds.{type-is, payload-is}
@@ -79,3 +86,27 @@ module _ {P : Program} {r : Regs} {st he : List ℕ} {ws hs : List Word} (h : Ho
             let y = whole-block o (omega (arith, a, l)) .inside in
             omega (arith, y, b, h .hp);
       }
+
+-- ---- the image
+
+-- a number between 1 and n
+between : (a n : ℕ) → T (leb 1 a && leb a n) → (1 ≤ a) × (a ≤ n)
+between a n t = (leb→le 1 a (and-left (leb 1 a) (leb a n) t), leb→le a n (and-right (leb 1 a) (leb a n) t))
+
+first-exists : (P : Program) (op a : ℕ) → op ≡ 19 → T (fieldOk P (formatOf op .a) a) → (1 ≤ a) × (a ≤ 3)
+unfolding fieldOk formatOf format
+first-exists P op a e t = between a 3 (subst (λ (n : ℕ). T (fieldOk P (formatOf n .a) a)) e t)
+
+second-exists : (P : Program) (op a : ℕ) → op ≡ 20 → T (fieldOk P (formatOf op .a) a) → (1 ≤ a) × (a ≤ 22)
+unfolding fieldOk formatOf format
+second-exists P op a e t = between a 22 (subst (λ (n : ℕ). T (fieldOk P (formatOf n .a) a)) e t)
+
+pub image-applies : (P : Program) (k : ℕ) → InstructionFits P k → 19 ≤ P .opcode k → P .opcode k ≤ 21
+    → Applies (P .opcode k) (P .argA k)
+image-applies P k i l m =
+    record {
+      least = l;
+      most = m;
+      one = λ e. first-exists P (P .opcode k) (P .argA k) e (i .a);
+      two = λ e. second-exists P (P .opcode k) (P .argA k) e (i .a);
+    }
