@@ -1,38 +1,38 @@
 -- What the instructions that make objects, or take them apart, lead to.
 use mathlib.Core.Path.{_≡_, refl, sym, ap, _∙_, subst}
-use mathlib.Core.Bool.{Bool, true, false, _&&_, _||_, true≢false, false≢true}
+use mathlib.Core.Bool.{true, false, _||_, true≢false}
 use mathlib.Core.List.{List, [], _∷_, _++_, append-assoc}
-use Prim.Native.Nat.{ℕ, zero, suc, _+_, _-_, _*_, _/_, _%_, _^_, _≤_, _<_}
+use Prim.Native.Nat.{ℕ, zero, suc, _+_, _-_, _/_, _%_, _^_, _≤_, _<_}
 use native.Mathlib.Nat.{not-suc-le-zero}
 use native.Mathlib.Decide.{ℕ-discrete, decLe}
 use native.Mathlib.Omega.{arith}
-use borrow.Author.Tests.{eq-eqb, ne-eqb, eqb-true}
-use lib.Dec.{T, eqb, eqb→eq, leb, leb→le, le→leb}
+use lib.Dec.{eqb, eqb→eq, leb, leb→le, le→leb}
 use lib.ListN.{length, getD, set, take, drop, length-append, length-set, length-drop, List·getD-append}
 use lib.Seq.{length-take-le, getD-take, getD-drop, getD-set-same, getD-set-other, getD-append-add}
-use Rattle.limits.specs.Machine.{Act, ends, goes}
-use Rattle.hume.specs.Words.{Word, null, ref, raw, bits, isRef, isNone, isValue, boolHeader, intHeader, floatHeader, tupleHeader}
+use Rattle.hume.specs.Words.{Word, null, ref, raw, bits, isValue, boolHeader, intHeader, floatHeader, tupleHeader, constrHeader}
 use Rattle.hume.specs.Numbers.{canonical}
 use Rattle.hume.specs.Tests.{all}
-use Rattle.hume.specs.State.{State, Deed, fault, values, locals, without, need, builds, stacks, below, downward, hp, numberAt, second}
+use Rattle.hume.specs.State.{State, Deed, fault, values, locals, without, builds, below, downward, hp, numberAt, second}
 use Rattle.hume.specs.Machine.{charged}
-use Rattle.hume.specs.Instructions.{MkBool, MkInt, MkFloat, mkBlock, isTupleOrConstr, Unpack}
+use Rattle.hume.specs.Instructions.{MkBool, MkInt, MkFloat, MkTuple, MkCon, mkBlock, isTupleOrConstr, Unpack}
 use Rattle.laws.specs.Sizes.{Small}
 use Rattle.laws.proofs.Deeds.{need-yes, need-no}
 use Rattle.laws.proofs.Tests.{of-true, to-true, OneOf, one, other, or-cases}
 use Rattle.laws.proofs.Words.{bits-raw}
-use Rattle.engine.specs.Fits.{Fit, Refs}
-use Rattle.engine.specs.Blocks.{Blocks, making, Placed, fromTop, fromPlace}
+use Rattle.engine.specs.Fits.{Fit}
+use Rattle.engine.specs.Blocks.{making, Placed, fromTop, fromPlace}
 use Rattle.engine.specs.Turns.{Bears, Smalls, core, Holds, halt, Buffers, Turned, priced}
 use Rattle.engine.specs.declared.Ending.the-variants as ending
 use Rattle.engine.specs.declared.regs.Limits.{Limits}
 use Rattle.engine.specs.declared.regs.Regs.{Regs}
 use Rattle.engine.specs.declared.regs.Turn.{Turn}
 use Rattle.engine.proofs.Turning.{Leads, stops, lead-grown, lead-still, values-are, reads-below}
-use Rattle.engine.proofs.Areas.{bears-push, bears-without, locals-take, locals-append}
+use Rattle.engine.proofs.Areas.{bears-push, bears-without, locals-append}
+use Rattle.engine.proofs.WordKinds.{payload-is, ref-yes, ref-no, number-is, second-is}
+use Rattle.engine.proofs.Stores.{length-without, locals-without}
 use Rattle.engine.proofs.Moving.{stacked}
 
--- ---- the instructions whose deed is `making`
+-- ---- the instructions whose deed is `making` or `mkBlock`
 
 pub mk-bool : (c : ℕ) (s : State) → MkBool c s ≡ making boolHeader c s
 unfolding MkBool
@@ -46,54 +46,19 @@ pub mk-float : (c : ℕ) (s : State) → MkFloat c s ≡ making floatHeader (can
 unfolding MkFloat
 mk-float c s = refl
 
--- ---- a word from its 32 bits
+pub mk-tuple : (a : ℕ) (s : State) → MkTuple a s ≡ mkBlock tupleHeader a s
+unfolding MkTuple
+mk-tuple a s = refl
 
-pub type-of : (n : ℕ) (w : Word) → n ≡ bits w → Small w → w .type ≡ n / 2 ^ 28
-unfolding bits
-type-of n w e k = let p : w .payload < 2 ^ 28 = k .payload in omega arith
-
-pub payload-of : (n : ℕ) (w : Word) → n ≡ bits w → Small w → w .payload ≡ n % 2 ^ 28
-unfolding bits
-payload-of n w e k = let p : w .payload < 2 ^ 28 = k .payload in omega arith
-
-pub ref-of : (n : ℕ) (w : Word) → n ≡ bits w → Small w → n / 2 ^ 28 ≡ 1 → isRef w ≡ true
-unfolding isRef
-ref-of n w e k t = eq-eqb (w .type) 1 (type-of n w e k ∙ t)
-
-pub no-ref-of : (n : ℕ) (w : Word) → n ≡ bits w → Small w → (n / 2 ^ 28 ≡ 1 → ⊥) → isRef w ≡ false
-unfolding isRef
-no-ref-of n w e k t = ne-eqb (w .type) 1 (λ z. t (sym (type-of n w e k) ∙ z))
-
-pub value-ref : (n : ℕ) (w : Word) → n ≡ bits w → Small w → n / 2 ^ 28 ≡ 1 → true ≡ isValue w
-unfolding isValue
-value-ref n w e k t = rw (ref-of n w e k t)
-
--- where it is no reference, it is a value if it is None
-pub value-none : (n : ℕ) (w : Word) → n ≡ bits w → Small w → (n / 2 ^ 28 ≡ 1 → ⊥) → eqb n 536870912 ≡ isValue w
-unfolding isValue isNone
-value-none n w e k t = rw (no-ref-of n w e k t) (by (ℕ-discrete n 536870912))
-  where
-    by : Dec (n ≡ 536870912) → eqb n 536870912 ≡ (eqb (w .type) 2 && eqb (w .payload) 0)
-    by (yes z) =
-        let a : w .type ≡ 2 = type-of n w e k ∙ (let y : n / 2 ^ 28 ≡ 2 = omega arith in y) in
-        let b : w .payload ≡ 0 = payload-of n w e k ∙ (let y : n % 2 ^ 28 ≡ 0 = omega arith in y) in
-        rw (eq-eqb n 536870912 z, eq-eqb (w .type) 2 a, eq-eqb (w .payload) 0 b)
-    by (no z) = ne-eqb n 536870912 z ∙ sym (un (ℕ-discrete (w .type) 2))
-      where
-        un : Dec (w .type ≡ 2) → (eqb (w .type) 2 && eqb (w .payload) 0) ≡ false
-        un (yes a) =
-            rw (eq-eqb (w .type) 2 a)
-            (ne-eqb (w .payload) 0
-            (λ b.
-                let p = type-of n w e k in
-                let q = payload-of n w e k in
-                z (omega arith)))
-        un (no a) = rw (ne-eqb (w .type) 2 a)
+pub mk-con : (a b : ℕ) (s : State) → MkCon a b s ≡ mkBlock (constrHeader b) a s
+unfolding MkCon
+mk-con a b s = refl
 
 -- ---- areas
 
 -- two words more
-pub bears-two : (l : List ℕ) (ws : List Word) (v w : Word) (i j m n : ℕ) → Bears l ws → i ≡ length ws → j ≡ i + 1 → m ≡ bits v → n ≡ bits w → j < length l
+pub bears-two : (l : List ℕ) (ws : List Word) (v w : Word) (i j m n : ℕ) → Bears l ws → i ≡ length ws → j ≡ i + 1
+    → m ≡ bits v → n ≡ bits w → j < length l
     → Bears (set (set l i m) j n) (ws ++ v ∷ w ∷ [])
 bears-two l ws v w i j m n b e f p q h =
     let z : length (ws ++ v ∷ []) ≡ length ws + 1 = length-append ws (v ∷ []) in
@@ -147,7 +112,8 @@ placed-more l m at n x f p e h =
     by i k (no q) = getD-set-other m (at + n) (at + i) x 0 (λ z. q (omega (arith, z))) ∙ p .put i (omega (arith, q))
 
 -- an area bears the words that were moved to its end
-pub bears-placed : (l m : List ℕ) (ws vs : List Word) (at n : ℕ) (f : ℕ → ℕ) → Bears l ws → Placed l m at n f → at ≡ length ws → n ≡ length vs
+pub bears-placed : (l m : List ℕ) (ws vs : List Word) (at n : ℕ) (f : ℕ → ℕ) → Bears l ws → Placed l m at n f
+    → at ≡ length ws → n ≡ length vs
     → at + n ≤ length l → ((i : ℕ) → i < n → f i ≡ bits (getD vs i null)) → Bears m (ws ++ vs)
 bears-placed l m ws vs at n f b p e q h g =
     let a = length-append ws vs in
@@ -191,11 +157,13 @@ downward-get ws i (suc n) zero h = ap (below ws) (let z : i ≡ i + 0 = omega ar
 downward-get ws i (suc n) (suc j) h =
     downward-get ws (i + 1) n j (omega (arith, h)) ∙ ap (below ws) (let z : i + 1 + j ≡ i + suc j = omega arith in z)
 
-downward-step : (ws : List Word) (i a : ℕ) → i < a → downward ws i (a - i) ≡ below ws i ∷ downward ws (i + 1) (a - (i + 1))
+downward-step : (ws : List Word) (i a : ℕ) → i < a
+    → downward ws i (a - i) ≡ below ws i ∷ downward ws (i + 1) (a - (i + 1))
 unfolding downward
 downward-step ws i a h = ap (downward ws i) (let z : a - i ≡ suc (a - (i + 1)) = omega arith in z)
 
-pub values-stop : (ws : List Word) (i a : ℕ) → i < a → isValue (below ws i) ≡ false → all isValue (downward ws i (a - i)) ≡ false
+pub values-stop : (ws : List Word) (i a : ℕ) → i < a → isValue (below ws i) ≡ false
+    → all isValue (downward ws i (a - i)) ≡ false
 unfolding all
 values-stop ws i a h e = ap (all isValue) (downward-step ws i a h) ∙ rw e
 
@@ -235,7 +203,8 @@ module _ {lim : Limits} {r : Regs} (f : Fit lim r) {st he : List ℕ} {ws hs : L
   s = core r ws hs wi or false
 
   -- an object of the words g, its reference on top of the lower n words
-  pub builds-lead : (cost t k n m : ℕ) (lower g : List Word) {d : Deed} → d ≡ builds s k lower g → t ≡ cost + k → n ≡ length lower
+  pub builds-lead : (cost t k n m : ℕ) (lower g : List Word) {d : Deed} → d ≡ builds s k lower g → t ≡ cost + k
+      → n ≡ length lower
       → r .fp ≤ n → locals (r .fp) lower ≡ locals (r .fp) ws → m ≡ r .hp + length g
       → Leads t (charged cost s d) (built r (n + 1) m) (lower ++ ref (hp s) ∷ []) (hs ++ g) wi or
   builds-lead cost t k n m lower g p e q low same z =
@@ -246,19 +215,14 @@ module _ {lim : Limits} {r : Regs} (f : Fit lim r) {st he : List ℕ} {ws hs : L
       ∙ ap (λ (x : ℕ). r .fp + x)
       (sym (locals-append (r .fp) lower (ref (hp s) ∷ []) (subst (λ (x : ℕ). r .fp ≤ x) q low) ∙ same)))
 
-  pub making-leads : (cost x c : ℕ) → Leads cost (priced cost (making x c) s) (built r (r .sp + 1) (r .hp + 2)) (ws ++ ref (hp s) ∷ []) (hs ++ raw x ∷ raw c ∷ []) wi or
+  pub making-leads : (cost x c : ℕ)
+      → Leads cost (priced cost (making x c) s) (built r (r .sp + 1) (r .hp + 2)) (ws ++ ref (hp s) ∷ []) (hs ++ raw x ∷ raw c ∷ []) wi or
   making-leads cost x c =
       builds-lead cost cost 0 (r .sp) (r .hp + 2) ws (raw x ∷ raw c ∷ []) refl (omega arith) (h .sp)
       (omega (arith, f .fp, f .lp)) refl refl
 
-  -- the words without the upper a are as many as the code says
-  pub without-length : (a : ℕ) → a ≤ r .sp → r .sp - a ≡ length (without a ws)
-  unfolding without
-  without-length a k = ap (λ (n : ℕ). n - a) (h .sp) ∙ sym (length-take-le (length ws - a) ws (omega arith))
-
-  pub without-locals : (a : ℕ) → a ≤ r .sp - r .lp → locals (r .fp) (without a ws) ≡ locals (r .fp) ws
-  unfolding without
-  without-locals a k = locals-take (r .fp) (length ws - a) ws (omega (arith, h .sp, f .fp, f .lp))
+  pub without-sp : (a : ℕ) → r .sp - a ≡ length (without a ws)
+  without-sp a = ap (λ (n : ℕ). n - a) (h .sp) ∙ sym (length-without a ws)
 
   pub block-few : (cost x a : ℕ) {b : Buffers} {q : Turn} → r .sp - r .lp < a → q ≡ halt r (ending.Fault 1)
       → Turned lim r b (priced cost (mkBlock x a) s) q b
@@ -286,11 +250,12 @@ module _ {lim : Limits} {r : Regs} (f : Fit lim r) {st he : List ℕ} {ws hs : L
       builds-lead cost cost 0 (r .sp - a) (r .hp + 2 + a) (without a ws) (raw x ∷ raw a ∷ downward ws 0 a)
       (need-yes (leb a (values s)) 1 _ (le→leb a (values s) (rw (values-are h wi or false) k))
       ∙ need-yes (all isValue (downward ws 0 a)) 2 _ (of-true v))
-      (omega arith) (without-length a (omega arith)) (omega (arith, f .fp, f .lp)) (without-locals a k)
+      (omega arith) (without-sp a) (omega (arith, f .fp, f .lp)) (locals-without (r .fp) a ws (omega (arith, h .sp, f .fp, f .lp)))
       (let z = downward-length ws 0 a in omega arith)
 
   -- the heap bears the object whose fields the loop moved
-  pub bears-block : (x a i j n : ℕ) {m : List ℕ} → a ≤ r .sp → Placed (set (set he i x) j n) m (r .hp + 2) a (fromTop st (r .sp)) → i ≡ r .hp → j ≡ i + 1 → n ≡ a
+  pub bears-block : (x a i j n : ℕ) {m : List ℕ} → a ≤ r .sp
+      → Placed (set (set he i x) j n) m (r .hp + 2) a (fromTop st (r .sp)) → i ≡ r .hp → j ≡ i + 1 → n ≡ a
       → r .hp + 2 + a ≤ length he → Bears m (hs ++ raw x ∷ raw a ∷ downward ws 0 a)
   bears-block x a i j n {m} k p e q d room =
       let z = length-append hs (raw x ∷ raw a ∷ []) in
@@ -304,12 +269,6 @@ module _ {lim : Limits} {r : Regs} (f : Fit lim r) {st he : List ℕ} {ws hs : L
 
   -- ---- taking apart
 
-  -- the number k places into the object at p
-  pub reads-number : (n p q k : ℕ) → n ≡ getD he q 0 → q ≡ p + k → q < r .hp → n ≡ numberAt hs p k
-  unfolding numberAt
-  reads-number n p q k e d l =
-      e ∙ h .heap .get q (omega (arith, h .hp)) ∙ ap (λ (x : ℕ). bits (getD hs x null)) d
-
   pub unpack-few : (cost : ℕ) {b : Buffers} {q : Turn} → r .sp ≤ r .lp → q ≡ halt r (ending.Fault 1)
       → Turned lim r b (priced cost Unpack s) q b
   unfolding Unpack
@@ -319,7 +278,8 @@ module _ {lim : Limits} {r : Regs} (f : Fit lim r) {st he : List ℕ} {ws hs : L
       (λ t. let v : 1 ≤ r .sp - r .lp = rw (values-are h wi or false) at (leb→le 1 (values s) t) in omega arith))
       e
 
-  unpack-stops : (cost : ℕ) {b : Buffers} {q : Turn} → r .lp < r .sp → isTupleOrConstr hs (below ws 0) ≡ false → q ≡ halt r (ending.Fault 2)
+  unpack-stops : (cost : ℕ) {b : Buffers} {q : Turn} → r .lp < r .sp → isTupleOrConstr hs (below ws 0) ≡ false
+      → q ≡ halt r (ending.Fault 2)
       → Turned lim r b (priced cost Unpack s) q b
   unfolding Unpack
   unpack-stops cost {b} {q} k v e =
@@ -332,18 +292,19 @@ module _ {lim : Limits} {r : Regs} (f : Fit lim r) {st he : List ℕ} {ws hs : L
     pub unpack-no-ref : (cost : ℕ) {b : Buffers} {q : Turn} → (w / 2 ^ 28 ≡ 1 → ⊥) → q ≡ halt r (ending.Fault 2)
         → Turned lim r b (priced cost Unpack s) q b
     unfolding isTupleOrConstr
-    unpack-no-ref cost t d = unpack-stops cost v (rw (no-ref-of w (below ws 0) e k t)) d
+    unpack-no-ref cost t d = unpack-stops cost v (rw (ref-no e k t)) d
 
     -- the header that is read of it
     module _ (t : w / 2 ^ 28 ≡ 1) (x : ℕ) (z : x ≡ getD he (w % 2 ^ 28) 0) (l : w % 2 ^ 28 + 2 ≤ r .hp) where
-      header-is : x ≡ numberAt hs (below ws 0 .payload) 0
+      header-is : numberAt hs (below ws 0 .payload) 0 ≡ x
       header-is =
-          reads-number x (below ws 0 .payload) (w % 2 ^ 28) 0 z
-          (let y = payload-of w (below ws 0) e k in omega arith) (omega arith)
+          number-is e k 0 (h .heap) (omega (arith, h .hp))
+          ∙ ap (λ (i : ℕ). getD he i 0) (let y : w % 2 ^ 28 + 0 ≡ w % 2 ^ 28 = omega arith in y)
+          ∙ sym z
 
       kind-is : isTupleOrConstr hs (below ws 0) ≡ (eqb x tupleHeader || eqb (x / 65536) 5)
       unfolding isTupleOrConstr
-      kind-is = rw (ref-of w (below ws 0) e k t, header-is)
+      kind-is = rw (ref-yes e k t, header-is)
 
       pub unpack-wrong : (cost : ℕ) {b : Buffers} {q : Turn} → (eqb x tupleHeader || eqb (x / 65536) 5) ≡ false
           → q ≡ halt r (ending.Fault 2) → Turned lim r b (priced cost Unpack s) q b
@@ -351,17 +312,14 @@ module _ {lim : Limits} {r : Regs} (f : Fit lim r) {st he : List ℕ} {ws hs : L
 
       -- and its size
       module _ (n : ℕ) (m : n ≡ getD he (w % 2 ^ 28 + 1) 0) (room : w % 2 ^ 28 + 2 + n ≤ r .hp) where
-        size-is : n ≡ second hs (below ws 0)
-        unfolding second
-        size-is =
-            reads-number n (below ws 0 .payload) (w % 2 ^ 28 + 1) 1 m
-            (let y = payload-of w (below ws 0) e k in omega arith) (omega arith)
+        size-is : second hs (below ws 0) ≡ n
+        size-is = second-is e k (h .heap) (omega (arith, h .hp)) ∙ sym m
 
         abbrev fields : List Word
         fields = take (second hs (below ws 0)) (drop (below ws 0 .payload + 2) hs)
 
         fields-are : fields ≡ take n (drop (w % 2 ^ 28 + 2) hs)
-        fields-are = rw (← size-is, payload-of w (below ws 0) e k)
+        fields-are = rw (size-is, ← payload-is e k)
 
         fields-length : n ≡ length fields
         fields-length =
@@ -375,24 +333,25 @@ module _ {lim : Limits} {r : Regs} (f : Fit lim r) {st he : List ℕ} {ws hs : L
             lead-still cost s (stacked r (r .sp - 1 + n))
             (need-yes (leb 1 (values s)) 1 _ (le→leb 1 (values s) (rw (values-are h wi or false) (omega arith)))
             ∙ need-yes (isTupleOrConstr hs (below ws 0)) 2 _ (of-true (kind-is ∙ y)))
-            (let a = without-length 1 (omega arith) in
+            (let a = without-sp 1 in
             let b = length-append (without 1 ws) fields in
             let d = fields-length in
             omega arith)
             (h .hp)
             (h .lp
             ∙ ap (λ (a : ℕ). r .fp + a)
-            (sym (locals-append (r .fp) (without 1 ws) fields (let a = without-length 1 (omega arith) in omega (arith, f .fp, f .lp))
-            ∙ without-locals 1 (omega arith))))
+            (sym (locals-append (r .fp) (without 1 ws) fields (let a = without-sp 1 in omega (arith, f .fp, f .lp))
+            ∙ locals-without (r .fp) 1 ws (omega (arith, h .sp, f .fp, f .lp)))))
 
-        pub bears-unpacked : {g : List ℕ} → Placed st g (r .sp - 1) n (fromPlace he (w % 2 ^ 28 + 2)) → r .sp - 1 + n ≤ length st
+        pub bears-unpacked : {g : List ℕ} → Placed st g (r .sp - 1) n (fromPlace he (w % 2 ^ 28 + 2))
+            → r .sp - 1 + n ≤ length st
             → Bears g (without 1 ws ++ fields)
         bears-unpacked {g} p o =
             bears-placed st g (without 1 ws) fields (r .sp - 1) n (fromPlace he (w % 2 ^ 28 + 2))
-            (bears-without st ws 1 (h .stack)) p (without-length 1 (omega arith)) fields-length o
+            (bears-without st ws 1 (h .stack)) p (without-sp 1) fields-length o
             (λ i j.
-                h .heap .get (w % 2 ^ 28 + 2 + i) (omega (arith, h .hp))
-                ∙ ap bits
-                (sym (getD-drop (w % 2 ^ 28 + 2) hs i null)
-                ∙ sym (getD-take n (drop (w % 2 ^ 28 + 2) hs) i null j)
-                ∙ ap (λ (a : List Word). getD a i null) (sym fields-are)))
+            h .heap .get (w % 2 ^ 28 + 2 + i) (omega (arith, h .hp))
+            ∙ ap bits
+            (sym (getD-drop (w % 2 ^ 28 + 2) hs i null)
+            ∙ sym (getD-take n (drop (w % 2 ^ 28 + 2) hs) i null j)
+            ∙ ap (λ (a : List Word). getD a i null) (sym fields-are)))

@@ -20,3 +20,4 @@ pub mod Reading
 pub mod Writing
 pub mod Building
 pub mod Yielding
+pub mod Granted

@@ -1,6 +1,6 @@
 -- What the primitives yield, and what applying one, or raising, leads to.
 use mathlib.Core.Path.{_≡_, refl, sym, ap, _∙_, subst}
-use mathlib.Core.Bool.{Bool, true, false, not, _&&_, _||_, true≢false}
+use mathlib.Core.Bool.{Bool, true, false, _&&_, _||_, true≢false}
 use mathlib.Core.List.{List, [], _∷_, _++_, append-assoc}
 use mathlib.Core.Option.{Option, none, some}
 use Prim.Native.Nat.{ℕ, zero, suc, _+_, _-_, _/_, _%_, _^_, _≤_, _<_}
@@ -13,9 +13,9 @@ use lib.ListN.{length, getD, set, take, length-append, length-set, List·getD-ap
 use lib.Seq.{getD-append-add, length-take-le}
 use Rattle.limits.specs.Machine.{ends, goes}
 use Rattle.hume.specs.Tests.{pick, every}
-use Rattle.hume.specs.Words.{Word, null, ref, link, raw, bits, isRef, isValue, boolHeader, intHeader, floatHeader, exnHeader}
+use Rattle.hume.specs.Words.{Word, null, ref, link, raw, bits, isValue, boolHeader, intHeader, floatHeader, exnHeader}
 use Rattle.hume.specs.Image.{Program}
-use Rattle.hume.specs.State.{State, Deed, End, fault, unhandled, leaving, values, locals, without, need, builds, below, hp, numberAt, isCell, second, raise}
+use Rattle.hume.specs.State.{State, Deed, fault, unhandled, leaving, values, locals, without, need, builds, below, hp, raise}
 use Rattle.hume.specs.Instructions.{yielded as resulted, operand, operandOk, CallPrim1, CallPrim2, Raise}
 use Rattle.hume.specs.Numbers.{toInt}
 use Rattle.hume.specs.Primitives.{Yield, value, raises, Primitive, truth, divided, converted, isTrue, oneOperand, twoOperands, primitives, noPrimitive, prim1, prim2}
@@ -36,8 +36,9 @@ use Rattle.engine.specs.declared.regs.Turn.{Turn}
 use Rattle.engine.specs.declared.prims.Yielded.{Yielded}
 use Rattle.engine.specs.declared.prims.Yielded.the-variants as yielded
 use Rattle.engine.proofs.Turning.{Leads, stops, turned-as, lead-grown, values-are}
-use Rattle.engine.proofs.Areas.{bears-push, bears-take, locals-take}
-use Rattle.engine.proofs.Building.{payload-of, ref-of, no-ref-of, reads-number, bears-two, built, builds-lead}
+use Rattle.engine.proofs.Areas.{bears-push, locals-take}
+use Rattle.engine.proofs.Building.{bears-two, built, builds-lead}
+use Rattle.engine.proofs.WordKinds.{cell-no, cell-is, second-is}
 
 -- ---- the table of cycles
 
@@ -134,7 +135,8 @@ module _ (p : ℕ → Primitive) (a h x y : ℕ) {q : Yielded} where
   arm k v u e d z w = rw (e, w, ← z) d
 
   -- one that divides
-  pub arm-divided : (k v : ℕ) (f : ℕ → ℕ → ℕ) → p a ≡ p k → q ≡ quotient h y v → v ≡ f x y → p k ≡ record { cycles = p k .cycles; takes = intHeader; gives = intHeader; yields = divided f }
+  pub arm-divided : (k v : ℕ) (f : ℕ → ℕ → ℕ) → p a ≡ p k → q ≡ quotient h y v → v ≡ f x y
+      → p k ≡ record { cycles = p k .cycles; takes = intHeader; gives = intHeader; yields = divided f }
       → q ≡ tried (p a) (eqb h (p a .takes)) x y
   unfolding tried quotient divided
   arm-divided k v f e d z w =
@@ -166,7 +168,8 @@ arm-cut a h x {q} o e d z =
     ∙ ap (λ (g : Yielded). pick (eqb h floatHeader) g yielded.Wrong) (given-cut (toInt x) ∙ ap whole (sym z)))
 
 -- two operands of different kinds, and of the same
-pub unlike : (p : Primitive) (h g x y : ℕ) → (h ≡ g → ⊥) → yielded.Wrong ≡ tried p (eqb h (p .takes) && eqb g (p .takes)) x y
+pub unlike : (p : Primitive) (h g x y : ℕ) → (h ≡ g → ⊥)
+    → yielded.Wrong ≡ tried p (eqb h (p .takes) && eqb g (p .takes)) x y
 unfolding tried pick
 unlike p h g x y n = by (ℕ-discrete h (p .takes)) (ℕ-discrete g (p .takes))
   where
@@ -220,7 +223,8 @@ tame-value p f g =
 tame-of : (u : Yield) (n e : ℕ) → u ≡ raises n → u ≡ raises e → n < 65536 → e < 65536
 tame-of u n e p q l = let z : n ≡ e = cc in omega arith
 
-tame-divided : (c : ℕ) (f : ℕ → ℕ → ℕ) → Tame (record { cycles = c; takes = intHeader; gives = intHeader; yields = divided f })
+tame-divided : (c : ℕ) (f : ℕ → ℕ → ℕ)
+    → Tame (record { cycles = c; takes = intHeader; gives = intHeader; yields = divided f })
 unfolding divided
 tame-divided c f = record { each = λ x y e q. by x y e (eqb y 0) q }
   where
@@ -251,38 +255,86 @@ tames-at (p ∷ ps) t (suc i) = tames-at ps (t .1) i
 
 tames-one : Tames oneOperand
 unfolding oneOperand
-tames-one =
-    (tame-value _ _ (λ x y. refl),
-    (tame-value _ _ (λ x y. refl),
-    (record { each = λ x y e q. tame-cut (toInt x) e q },
-    tt)))
+tames-one = (
+  tame-value _ _ (λ x y. refl),
+  (
+    tame-value _ _ (λ x y. refl),
+    (
+      record { each = λ x y e q. tame-cut (toInt x) e q },
+      tt,
+    ),
+  ),
+)
 
 tames-two : Tames twoOperands
 unfolding twoOperands
-tames-two =
-    (tame-value _ _ (λ x y. refl),
-    (tame-value _ _ (λ x y. refl),
-    (tame-value _ _ (λ x y. refl),
-    (tame-value _ _ (λ x y. refl),
-    (tame-value _ _ (λ x y. refl),
-    (tame-value _ _ (λ x y. refl),
-    (tame-value _ _ (λ x y. refl),
-    (tame-value _ _ (λ x y. refl),
-    (tame-value _ _ (λ x y. refl),
-    (tame-divided _ _,
-    (tame-divided _ _,
-    (tame-value _ _ (λ x y. refl),
-    (tame-value _ _ (λ x y. refl),
-    (tame-value _ _ (λ x y. refl),
-    (tame-value _ _ (λ x y. refl),
-    (tame-value _ _ (λ x y. refl),
-    (tame-value _ _ (λ x y. refl),
-    (tame-value _ _ (λ x y. refl),
-    (tame-value _ _ (λ x y. refl),
-    (tame-value _ _ (λ x y. refl),
-    (tame-value _ _ (λ x y. refl),
-    (tame-value _ _ (λ x y. refl),
-    tt))))))))))))))))))))))
+tames-two = (
+  tame-value _ _ (λ x y. refl),
+  (
+    tame-value _ _ (λ x y. refl),
+    (
+      tame-value _ _ (λ x y. refl),
+      (
+        tame-value _ _ (λ x y. refl),
+        (
+          tame-value _ _ (λ x y. refl),
+          (
+            tame-value _ _ (λ x y. refl),
+            (
+              tame-value _ _ (λ x y. refl),
+              (
+                tame-value _ _ (λ x y. refl),
+                (
+                  tame-value _ _ (λ x y. refl),
+                  (
+                    tame-divided _ _,
+                    (
+                      tame-divided _ _,
+                      (
+                        tame-value _ _ (λ x y. refl),
+                        (
+                          tame-value _ _ (λ x y. refl),
+                          (
+                            tame-value _ _ (λ x y. refl),
+                            (
+                              tame-value _ _ (λ x y. refl),
+                              (
+                                tame-value _ _ (λ x y. refl),
+                                (
+                                  tame-value _ _ (λ x y. refl),
+                                  (
+                                    tame-value _ _ (λ x y. refl),
+                                    (
+                                      tame-value _ _ (λ x y. refl),
+                                      (
+                                        tame-value _ _ (λ x y. refl),
+                                        (
+                                          tame-value _ _ (λ x y. refl),
+                                          (
+                                            tame-value _ _ (λ x y. refl),
+                                            tt,
+                                          ),
+                                        ),
+                                      ),
+                                    ),
+                                  ),
+                                ),
+                              ),
+                            ),
+                          ),
+                        ),
+                      ),
+                    ),
+                  ),
+                ),
+              ),
+            ),
+          ),
+        ),
+      ),
+    ),
+  ),
+)
 
 pub tame-one : (a : ℕ) → Tame (prim1 a)
 unfolding prim1
@@ -316,11 +368,13 @@ module _ (r : Regs) where
         number = λ k w e. let z : _≡_ {A = ℕ} 0 1 = cc in absurd (omega arith);
       }
 
-  pub fair-tried : (p : Primitive) → Tame p → (ok : Bool) (x y low : ℕ) {o : Outcome} → o ≡ settled low (tried p ok x y) → r .lp ≤ low → low < r .sp → Fair r o
+  pub fair-tried : (p : Primitive) → Tame p → (ok : Bool) (x y low : ℕ) {o : Outcome} → o ≡ settled low (tried p ok x y)
+      → r .lp ≤ low → low < r .sp → Fair r o
   unfolding tried pick
   fair-tried p t ok x y low {o} e l m = subst (Fair r) (sym e) (by ok (p .yields x y) (t .each x y))
     where
-      by : (b : Bool) (u : Yield) → ((n : ℕ) → u ≡ raises n → n < 65536) → Fair r (settled low (pick b (given p u) yielded.Wrong))
+      by : (b : Bool) (u : Yield) → ((n : ℕ) → u ≡ raises n → n < 65536)
+          → Fair r (settled low (pick b (given p u) yielded.Wrong))
       by false u k = fair-fault 2
       by true (value v) k = fair-value low (p .gives) v l m
       by true (raises n) k = fair-raises n 536870912 (k n refl)
@@ -338,8 +392,7 @@ unfolding need tried pick
 prim-deal P s n low p true x y e = yield-deal P s n low p (p .yields x y) e
 prim-deal P s n low p false x y e = refl
 
-module _ {lim : Limits} {r : Regs} (f : Fit lim r) {st he : List ℕ} {ws hs : List Word} (h : Holds r st he ws hs)
-    (wi or : List ℕ) where
+module _ {r : Regs} {st he : List ℕ} {ws hs : List Word} (h : Holds r st he ws hs) (wi or : List ℕ) where
   abbrev s : State
   s = core r ws hs wi or false
 
@@ -352,21 +405,18 @@ module _ {lim : Limits} {r : Regs} (f : Fit lim r) {st he : List ℕ} {ws hs : L
   -- the operand i below the top, as it is read
   module _ (i w : ℕ) (e : w ≡ bits (below ws i)) (k : Small (below ws i)) (p : Primitive) where
     operand-no : (w / 2 ^ 28 ≡ 1 → ⊥) → operandOk s p i ≡ false
-    unfolding operandOk isCell
-    operand-no t = rw (no-ref-of w (below ws i) e k t)
+    unfolding operandOk
+    operand-no t = cell-no e k hs (p .takes) t
 
     module _ (t : w / 2 ^ 28 ≡ 1) (l : w % 2 ^ 28 + 2 ≤ r .hp) where
       operand-ok : (x : ℕ) → x ≡ getD he (w % 2 ^ 28) 0 → operandOk s p i ≡ eqb x (p .takes)
-      unfolding operandOk isCell
+      unfolding operandOk
       operand-ok x z =
-          let y = payload-of w (below ws i) e k in
-          rw (ref-of w (below ws i) e k t, ← reads-number f h wi or x (below ws i .payload) (w % 2 ^ 28) 0 z (omega arith) (omega arith))
+          cell-is e k (p .takes) t (h .heap) (omega (arith, h .hp)) ∙ ap (λ (n : ℕ). eqb n (p .takes)) (sym z)
 
       operand-is : (x : ℕ) → x ≡ getD he (w % 2 ^ 28 + 1) 0 → operand s i ≡ x
-      unfolding operand second
-      operand-is x z =
-          let y = payload-of w (below ws i) e k in
-          sym (reads-number f h wi or x (below ws i .payload) (w % 2 ^ 28 + 1) 1 z (omega arith) (omega arith))
+      unfolding operand
+      operand-is x z = second-is e k (h .heap) (omega (arith, h .hp)) ∙ sym z
 
   module _ (P : Program) (a : ℕ) where
     pub one-few : r .sp ≤ r .lp → CallPrim1 P a s ≡ ends (fault 1)
@@ -447,22 +497,6 @@ module _ {lim : Limits} {r : Regs} (f : Fit lim r) {st he : List ℕ} {ws hs : L
         ∙ need-yes (isValue (below ws 0)) 2 _ (of-true v)
         ∙ ap (raise P s 0 b) (sym (ap raw e ∙ raw-bits (below ws 0) m))
 
-  -- ---- what follows
-
-  -- a result in the place of the operands
-  pub give-leads : (P : Program) (cost t k low x y : ℕ) → r .lp ≤ low → low < r .sp → cost ≡ t + k
-      → Leads cost (priced t (dealt P k (outcome.Value low x y)) s) (built r (low + 1) (r .hp + 2)) (take low ws ++ ref (hp s) ∷ []) (hs ++ raw x ∷ raw y ∷ []) wi or
-  give-leads P cost t k low x y l m e =
-      builds-lead f h wi or t cost k low (r .hp + 2) (take low ws) (raw x ∷ raw y ∷ []) refl e
-      (sym (length-take-le low ws (omega (arith, h .sp)))) (omega (arith, f .fp)) (locals-take (r .fp) low ws (omega (arith, f .fp))) refl
-
-  -- an exception with no handler
-  pub unhandled-stops : (P : Program) (t k e w handler entry : ℕ) {b : Buffers} {q : Turn} → Handled P handler entry → handler ≡ 255 → q ≡ halt r (ending.Unhandled e)
-      → Turned lim r b (priced t (dealt P k (outcome.Raises e w)) s) q b
-  unfolding raise
-  unhandled-stops P t k e w handler entry {b} {q} d z p =
-      stops t lim r b s (unhandled e) (pick-true (eqb (P .handler) 255) _ _ (of-true (eq-eqb (P .handler) 255 (d .handler-is ∙ z)))) p
-
 -- the registers where a handler is entered
 abbrev pub entered : Regs → ℕ → ℕ → Regs
 entered r handler entry =
@@ -494,13 +528,14 @@ bears-thrown l n p e h =
     let b1 : Bears (set l 0 n) (ref p ∷ []) = bears-push l [] (ref p) 0 n b0 refl e (omega arith) in
     let b2 : Bears (set (set l 0 n) 1 0) (ref p ∷ null ∷ []) = bears-push (set l 0 n) (ref p ∷ []) null 1 0 b1 refl refl (simp length-set (omega arith)) in
     let b3 : Bears (set (set (set l 0 n) 1 0) 2 0) (ref p ∷ null ∷ null ∷ []) =
-        bears-push (set (set l 0 n) 1 0) (ref p ∷ null ∷ []) null 2 0 b2 refl refl (simp length-set (omega arith)) in
+    bears-push (set (set l 0 n) 1 0) (ref p ∷ null ∷ []) null 2 0 b2 refl refl (simp length-set (omega arith)) in
     let b4 : Bears (set (set (set (set l 0 n) 1 0) 2 0) 3 0) (ref p ∷ null ∷ null ∷ null ∷ []) =
-        bears-push (set (set (set l 0 n) 1 0) 2 0) (ref p ∷ null ∷ null ∷ []) null 3 0 b3 refl refl (simp length-set (omega arith)) in
+    bears-push (set (set (set l 0 n) 1 0) 2 0) (ref p ∷ null ∷ null ∷ []) null 3 0 b3 refl refl (simp length-set (omega arith)) in
     bears-push (set (set (set (set l 0 n) 1 0) 2 0) 3 0) (ref p ∷ null ∷ null ∷ null ∷ []) (link 0 0) 4 1610612736 b4 refl refl (simp length-set (omega arith))
 
 -- an exception's three words
-pub bears-exn : (l : List ℕ) (hs : List Word) (e w p m : ℕ) → Bears l hs → p ≡ length hs → m ≡ exnHeader e → p + 3 ≤ length l
+pub bears-exn : (l : List ℕ) (hs : List Word) (e w p m : ℕ) → Bears l hs → p ≡ length hs → m ≡ exnHeader e
+    → p + 3 ≤ length l
     → Bears (set (set (set l p m) (p + 1) 1) (p + 2) w) (hs ++ raw (exnHeader e) ∷ raw 1 ∷ raw w ∷ [])
 bears-exn l hs e w p m b d q h =
     let z : length (hs ++ raw (exnHeader e) ∷ raw 1 ∷ []) ≡ length hs + 2 = length-append hs (raw (exnHeader e) ∷ raw 1 ∷ []) in
@@ -510,7 +545,25 @@ bears-exn l hs e w p m b d q h =
     (omega arith) (sym (bits-raw w)) (simp length-set (omega arith)))
 
 module _ {r : Regs} {st he : List ℕ} {ws hs : List Word} (h : Holds r st he ws hs) (wi or : List ℕ) where
-  pub raise-leads : (P : Program) (cost t k e w handler entry : ℕ) → Handled P handler entry → (handler ≡ 255 → ⊥) → cost ≡ t + k
+  -- a result in the place of the operands
+  pub give-leads : {lim : Limits} (f : Fit lim r) (P : Program) (cost t k low x y : ℕ) → r .lp ≤ low → low < r .sp
+      → cost ≡ t + k
+      → Leads cost (priced t (dealt P k (outcome.Value low x y)) (core r ws hs wi or false)) (built r (low + 1) (r .hp + 2)) (take low ws ++ ref (length hs) ∷ []) (hs ++ raw x ∷ raw y ∷ []) wi or
+  give-leads f P cost t k low x y l m e =
+      builds-lead f h wi or t cost k low (r .hp + 2) (take low ws) (raw x ∷ raw y ∷ []) refl e
+      (sym (length-take-le low ws (omega (arith, h .sp)))) (omega (arith, f .fp)) (locals-take (r .fp) low ws (omega (arith, f .fp))) refl
+
+  -- an exception with no handler
+  pub unhandled-stops : (lim : Limits) (P : Program) (t k e w handler entry : ℕ) {b : Buffers} {q : Turn}
+      → Handled P handler entry → handler ≡ 255 → q ≡ halt r (ending.Unhandled e)
+      → Turned lim r b (priced t (dealt P k (outcome.Raises e w)) (core r ws hs wi or false)) q b
+  unfolding raise
+  unhandled-stops lim P t k e w handler entry {b} {q} d z p =
+      stops t lim r b (core r ws hs wi or false) (unhandled e)
+      (pick-true (eqb (P .handler) 255) _ _ (of-true (eq-eqb (P .handler) 255 (d .handler-is ∙ z)))) p
+
+  pub raise-leads : (P : Program) (cost t k e w handler entry : ℕ) → Handled P handler entry → (handler ≡ 255 → ⊥)
+      → cost ≡ t + k
       → Leads cost (priced t (dealt P k (outcome.Raises e w)) (core r ws hs wi or false)) (entered r handler entry) (thrown (length hs))
       (hs ++ raw (exnHeader e) ∷ raw 1 ∷ raw w ∷ []) wi or
   unfolding raise locals pick
@@ -520,16 +573,17 @@ module _ {r : Regs} {st he : List ℕ} {ws hs : List Word} (h : Holds r st he ws
       lead-grown t (core r ws hs wi or false) (entered r handler entry) cost k (raw (exnHeader e) ∷ raw 1 ∷ raw w ∷ [])
       (pick-false (eqb (P .handler) 255) _ _ (λ z. n (sym i ∙ eqb→eq (P .handler) 255 z))
       ∙ (λ y. goes k
-          (leaving (core r ws hs wi or false)
-          (record { pc = j y; fp = 5; slp = 0; rp = 0; mp = r .mp; inp = r .inp; rs = i y })
-          (thrown (length hs))
-          (raw (exnHeader e) ∷ raw 1 ∷ raw w ∷ []))))
+      (leaving (core r ws hs wi or false)
+      (record { pc = j y; fp = 5; slp = 0; rp = 0; mp = r .mp; inp = r .inp; rs = i y })
+      (thrown (length hs))
+      (raw (exnHeader e) ∷ raw 1 ∷ raw w ∷ []))))
       c refl (ap (λ (y : ℕ). y + 3) (h .hp)) refl
 
 -- ---- the application whole
 
 -- an instruction meets what its outcome does
-pub deals-meet : {lim : Limits} {r : Regs} {st he : List ℕ} {k : ℕ} {deed : Program → State → Deed} {o u : Outcome} {q : Turn} {b : Buffers} (P : Program) (t : ℕ) (wi or : List ℕ) → Deals r st he k deed o → o ≡ u
+pub deals-meet : {lim : Limits} {r : Regs} {st he : List ℕ} {k : ℕ} {deed : Program → State → Deed} {o u : Outcome} {q : Turn} {b : Buffers} (P : Program) (t : ℕ) (wi or : List ℕ)
+    → Deals r st he k deed o → o ≡ u
     → Meets lim r (buffers st he wi or) (priced t (dealt P k u)) q b → Meets lim r (buffers st he wi or) (priced t (deed P)) q b
 deals-meet {r = r} {k = k} P t wi or d e m =
     record {

@@ -5,7 +5,7 @@ use super::regs::Regs;
 use super::regs::Turn;
 use super::words::is_value;
 ghost use mathlib.Core.Path.{_≡_};
-ghost use mathlib.Core.Bool.{Bool, _||_};
+ghost use mathlib.Core.Bool.{_||_};
 ghost use mathlib.Core.List.{List};
 ghost use Prim.Native.Nat.{ℕ, _+_, _-_, _/_, _≤_, _<_};
 ghost use lib.Dec.{eqb};
@@ -20,7 +20,15 @@ ghost use Rattle.engine.specs.Blocks.{Blocks, making, Placed, fromTop, f
 
 impl Regs {
     // "1 MkBool c, 2 MkInt c (two's complement), 3 MkFloat c (bits)" [+1]: a header and a payload.
-    pub(crate) fn mk_atom(self, lim: Limits, cost: usize, h: u32, c: u32, stack: &mut [u32], heap: &mut [u32]) -> Turn
+    pub(crate) fn mk_atom(
+        self,
+        lim: Limits,
+        cost: usize,
+        h: u32,
+        c: u32,
+        stack: &mut [u32],
+        heap: &mut [u32],
+    ) -> Turn
         requires { ⌜ Fit lim self ⌝ }
         requires { ⌜ lim .stack ≤ length (now stack) ⌝ }
         requires { ⌜ lim .heap ≤ length (now heap) ⌝ }
@@ -42,7 +50,15 @@ impl Regs {
     }
 
     // "5 MkTuple a, 6 MkCon a fields, tag b [1-a]: field 0 is the top word; each field a reference or None."
-    pub(crate) fn mk_block(self, lim: Limits, cost: usize, h: u32, a: usize, stack: &mut [u32], heap: &mut [u32]) -> Turn
+    pub(crate) fn mk_block(
+        self,
+        lim: Limits,
+        cost: usize,
+        h: u32,
+        a: usize,
+        stack: &mut [u32],
+        heap: &mut [u32],
+    ) -> Turn
         requires { ⌜ Fit lim self ⌝ }
         requires { ⌜ lim .stack ≤ length (now stack) ⌝ }
         requires { ⌜ lim .heap ≤ length (now heap) ⌝ }

@@ -40,8 +40,32 @@ ghost use Rattle.engine.specs.declared.prims.Outcome.the-variants as out
 // ---- one primitive
 
 // "cycles from Table 5 .. These are kept as one table of costs by primitive number": those of one operand, then those of two.
-const CYCLES: [u32; 25] = [
-    118, 699, 2973, 125, 243, 122, 124, 122, 124, 116, 116, 124, 206, 1294, 153, 156, 125, 211, 209, 211, 209, 1106, 1112, 356,
+// In 16 bits, since the compiler copies the table where it is read.
+const CYCLES: [u16; 25] = [
+    118,
+    699,
+    2973,
+    125,
+    243,
+    122,
+    124,
+    122,
+    124,
+    116,
+    116,
+    124,
+    206,
+    1294,
+    153,
+    156,
+    125,
+    211,
+    209,
+    211,
+    209,
+    1106,
+    1112,
+    356,
     959,
 ];
 
@@ -53,6 +77,7 @@ enum Yielded {
     Wrong,
 }
 
+// A Bool's payload.
 fn truth(b: bool) -> u32
     ensures { λ r. ⌜ r ≡ truthOf b ⌝ }
 {
@@ -152,6 +177,7 @@ fn pair(a: usize, h: u32, x: u32, y: u32) -> Yielded
     }
 }
 
+// "the top word being the first operand": its header h0 and payload x, and those of the second.
 fn prim2(a: usize, h0: u32, x: u32, h1: u32, y: u32) -> Yielded
     ensures { λ r. ⌜ r ≡ tried (primitive2 a) (eqb h0 (primitive2 a .takes) && eqb h1 (primitive2 a .takes)) x y ⌝ }
 {
@@ -182,7 +208,7 @@ fn settle(y: Yielded, low: usize) -> Outcome
 }
 
 // The cycles of a primitive besides the card's, and none for Raise.
-fn cycles(op: usize, a: usize) -> u32
+fn cycles(op: usize, a: usize) -> u16
     requires { ⌜ Applies op a ⌝ }
     ensures { λ r. ⌜ Cycles op a r ⌝ }
 {
@@ -197,10 +223,8 @@ fn cycles(op: usize, a: usize) -> u32
 
 impl Regs {
     // "19 CallPrim1 a [0]"
-    fn try_one(self, lim: Limits, a: usize, stack: &[u32], heap: &[u32]) -> Outcome
-        requires { ⌜ Fit lim self ⌝ }
-        requires { ⌜ lim .stack ≤ length (now stack) ⌝ }
-        requires { ⌜ lim .heap ≤ length (now heap) ⌝ }
+    fn try_one(self, a: usize, stack: &[u32], heap: &[u32]) -> Outcome
+        requires { ⌜ (self .lp ≤ self .sp) × (self .sp ≤ length (now stack)) × (self .hp ≤ length (now heap)) ⌝ }
         requires { ⌜ Refs self (now stack) ⌝ }
         ensures { λ r. ⌜ Deals self (now (stack .entry)) (now (heap .entry)) (primitive1 a .cycles) (λ P. CallPrim1 P a) r ⌝ }
         ensures { λ r. ⌜ Fair self r ⌝ }
@@ -218,10 +242,8 @@ impl Regs {
     }
 
     // "20 CallPrim2 a [-1]", "the top word being the first operand"
-    fn try_two(self, lim: Limits, a: usize, stack: &[u32], heap: &[u32]) -> Outcome
-        requires { ⌜ Fit lim self ⌝ }
-        requires { ⌜ lim .stack ≤ length (now stack) ⌝ }
-        requires { ⌜ lim .heap ≤ length (now heap) ⌝ }
+    fn try_two(self, a: usize, stack: &[u32], heap: &[u32]) -> Outcome
+        requires { ⌜ (self .lp ≤ self .sp) × (self .sp ≤ length (now stack)) × (self .hp ≤ length (now heap)) ⌝ }
         requires { ⌜ Refs self (now stack) ⌝ }
         ensures { λ r. ⌜ Deals self (now (stack .entry)) (now (heap .entry)) (primitive2 a .cycles) (λ P. CallPrim2 P a) r ⌝ }
         ensures { λ r. ⌜ Fair self r ⌝ }
@@ -244,9 +266,8 @@ impl Regs {
     }
 
     // "21 Raise b: makes Exn b of the top value (reference or None)"
-    fn try_raise(self, lim: Limits, b: u32, stack: &[u32]) -> Outcome
-        requires { ⌜ Fit lim self ⌝ }
-        requires { ⌜ lim .stack ≤ length (now stack) ⌝ }
+    fn try_raise(self, b: u32, stack: &[u32]) -> Outcome
+        requires { ⌜ self .sp ≤ length (now stack) ⌝ }
         requires { ⌜ b < 65536 ⌝ }
         ensures { λ r. ⌜ ((he : List ℕ) → Deals self (now (stack .entry)) he 0 (λ P. Raise P b) r) ⌝ }
         ensures { λ r. ⌜ Fair self r ⌝ }
@@ -262,25 +283,33 @@ impl Regs {
         Outcome::Raises(b, w)
     }
 
-    fn try_any(self, lim: Limits, op: usize, a: usize, b: u32, stack: &[u32], heap: &[u32]) -> Outcome
-        requires { ⌜ Fit lim self ⌝ }
-        requires { ⌜ lim .stack ≤ length (now stack) ⌝ }
-        requires { ⌜ lim .heap ≤ length (now heap) ⌝ }
+    // By opcode.
+    fn try_any(self, op: usize, a: usize, b: u32, stack: &[u32], heap: &[u32]) -> Outcome
+        requires { ⌜ (self .lp ≤ self .sp) × (self .sp ≤ length (now stack)) × (self .hp ≤ length (now heap)) ⌝ }
         requires { ⌜ Refs self (now stack) ⌝ }
         requires { ⌜ b < 65536 ⌝ }
         ensures { λ r. ⌜ Tries self (now (stack .entry)) (now (heap .entry)) op a b r ⌝ }
     {
         if op == 19 {
-            return self.try_one(lim, a, stack, heap);
+            return self.try_one(a, stack, heap);
         }
         if op == 20 {
-            return self.try_two(lim, a, stack, heap);
+            return self.try_two(a, stack, heap);
         }
-        self.try_raise(lim, b, stack)
+        self.try_raise(b, stack)
     }
 
     // "result 2 heap words", in the place of the operands
-    fn give(self, lim: Limits, cost: usize, low: usize, h: u32, x: u32, stack: &mut [u32], heap: &mut [u32]) -> Turn
+    fn give(
+        self,
+        lim: Limits,
+        cost: usize,
+        low: usize,
+        h: u32,
+        x: u32,
+        stack: &mut [u32],
+        heap: &mut [u32],
+    ) -> Turn
         requires { ⌜ Fit lim self ⌝ }
         requires { ⌜ lim .stack ≤ length (now stack) ⌝ }
         requires { ⌜ lim .heap ≤ length (now heap) ⌝ }
@@ -303,7 +332,17 @@ impl Regs {
 
     // "the stack becomes the exception, three nulls and a frame link with fp 0 and n 0; fp = 5, slp 0; the handler is entered
     // with rp 0"; "4 exception (number) with no handler"
-    fn raise(self, lim: Limits, cost: usize, e: u32, w: u32, handler: usize, entry: usize, stack: &mut [u32], heap: &mut [u32]) -> Turn
+    fn raise(
+        self,
+        lim: Limits,
+        cost: usize,
+        e: u32,
+        w: u32,
+        handler: usize,
+        entry: usize,
+        stack: &mut [u32],
+        heap: &mut [u32],
+    ) -> Turn
         requires { ⌜ Fit lim self ⌝ }
         requires { ⌜ lim .stack ≤ length (now stack) ⌝ }
         requires { ⌜ lim .heap ≤ length (now heap) ⌝ }
@@ -338,7 +377,18 @@ impl Regs {
     }
 
     // 19 CallPrim1, 20 CallPrim2 and 21 Raise.
-    pub(crate) fn apply(self, lim: Limits, cost: usize, op: usize, a: usize, b: u32, handler: usize, entry: usize, stack: &mut [u32], heap: &mut [u32]) -> Turn
+    pub(crate) fn apply(
+        self,
+        lim: Limits,
+        cost: usize,
+        op: usize,
+        a: usize,
+        b: u32,
+        handler: usize,
+        entry: usize,
+        stack: &mut [u32],
+        heap: &mut [u32],
+    ) -> Turn
         requires { ⌜ Fit lim self ⌝ }
         requires { ⌜ lim .stack ≤ length (now stack) ⌝ }
         requires { ⌜ lim .heap ≤ length (now heap) ⌝ }
@@ -350,7 +400,7 @@ impl Regs {
         ensures { λ r. ⌜ ((P : Program) (wi or : List ℕ) → Handled P handler entry → op ≡ 20 → Meets lim self (buffers (now (stack .entry)) (now (heap .entry)) wi or) (priced cost (CallPrim2 P a)) r (buffers (now (stack .exit)) (now (heap .exit)) wi or)) ⌝ }
         ensures { λ r. ⌜ ((P : Program) (wi or : List ℕ) → Handled P handler entry → op ≡ 21 → Meets lim self (buffers (now (stack .entry)) (now (heap .entry)) wi or) (priced cost (Raise P b)) r (buffers (now (stack .exit)) (now (heap .exit)) wi or)) ⌝ }
     {
-        let o = self.try_any(lim, op, a, b, stack, heap);
+        let o = self.try_any(op, a, b, stack, heap);
         let time = cost + cycles(op, a) as usize;
         match o {
             Outcome::Fault(n) => self.halt(Ending::Fault(n)),

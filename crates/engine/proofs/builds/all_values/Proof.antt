@@ -1,9 +1,9 @@
-use mathlib.Core.Path.{_≡_, refl, sym, _∙_, ap}
+use mathlib.Core.Path.{_≡_, sym, _∙_, ap}
 use mathlib.Core.List.{List}
 use native.Mathlib.Omega.{arith}
 use borrow.Author.Needs.{needs}
 use borrow.Author.Tests.{not-true, not-false}
-use Prim.Native.Nat.{ℕ, _+_, _-_, _≤_}
+use Prim.Native.Nat.{ℕ, _-_, _≤_}
 use lib.ListN.{length}
 use Rattle.hume.specs.Words.{Word, isValue}
 use Rattle.hume.specs.Tests.{all}
@@ -12,9 +12,6 @@ use Rattle.engine.specs.Turns.{Bears, Smalls}
 use Rattle.engine.proofs.Building.{bears-below, small-below, values-stop, values-more, values-end}
 use Rattle.engine.proofs.builds.all_values.Statement.{statement}
 use Rattle.engine.proofs.builds.all_values.Tie as tie
-use Rattle.engine.proofs.builds.all_values.Reads as reads
-use Rattle.engine.proofs.builds.all_values.Lts as lts
-use Rattle.engine.proofs.words.is_value.Reads as is-value-reads
 
 abbrev Inv-loop : tie.InvT-loop
 Inv-loop stack sp a i₀ i = (i ≤ a) × ((ws : List Word) → Bears stack ws → Smalls ws → sp ≡ length ws → all isValue (downward ws i (a - i)) ≡ all isValue (downward ws 0 a))
@@ -22,31 +19,24 @@ Inv-loop stack sp a i₀ i = (i ≤ a) × ((ws : List Word) → Bears stack ws �
 abbrev μ-loop : tie.MeasureT-loop
 μ-loop stack sp a i₀ i = a - i
 
--- src/builds.rt:116:5
 loop-holds : tie.Need-loop-holds Inv-loop μ-loop
 loop-holds c = (omega arith, λ ws b m e. ap (λ (n : ℕ). all isValue (downward ws 0 n)) (omega arith))
 
--- src/builds.rt:117:29
 add-w : tie.Need-add-w Inv-loop μ-loop
 add-w c = omega arith
 
--- src/builds.rt:117:23
 sub-w : tie.Need-sub-w Inv-loop μ-loop
 sub-w c = omega arith
 
--- src/builds.rt:117:17
 mul-w : tie.Need-mul-w Inv-loop μ-loop
 mul-w c = omega arith
 
--- src/builds.rt:117:17
 shared-slice-read-w : tie.Need-shared-slice-read-w Inv-loop μ-loop
 shared-slice-read-w c = omega arith
 
--- src/builds.rt:118:13
 is-value-requires : tie.Need-is-value-requires Inv-loop μ-loop
 is-value-requires c κs = search needs
 
--- src/builds.rt:119:13
 returns : tie.Need-returns Inv-loop μ-loop
 returns c =
     let loop = c .before .before .before .before .loop in
@@ -54,27 +44,39 @@ returns c =
     let is-value = c .before .is-value in
     let start = c .before .before .before .before .before .before in
     let if1 = c .if1 in
-    λ ws b m e. sym (sym (loop .inv .1 ws b m e) ∙ values-stop ws _ _ (loop-test .taken) (sym (is-value .ensures _ (bears-below _ _ b e (omega (arith, loop-test .taken, start .pre .0))) (small-below _ m)) ∙ not-true _ (if1 .taken)))
+    λ ws b m e.
+    sym
+    (sym (loop .inv .1 ws b m e)
+    ∙ values-stop ws _ _ (loop-test .taken)
+    (sym
+    (is-value .ensures _ (bears-below _ _ b e (omega (arith, loop-test .taken, start .pre .0)))
+    (small-below _ m))
+    ∙ not-true _ (if1 .taken)))
 
--- src/builds.rt:121:9
 add-i : tie.Need-add-i Inv-loop μ-loop
 add-i c = omega arith
 
--- src/builds.rt:116:5
 loop-less : tie.Need-loop-less Inv-loop μ-loop
 loop-less c = omega arith
 
--- src/builds.rt:116:5
 loop-again : tie.Need-loop-again Inv-loop μ-loop
 loop-again c =
     let loop-test = c .before .before .before .loop-test in
     let is-value = c .before .is-value in
     let start = c .before .before .before .before .before .before in
     let if1 = c .if1 in
-    let loop = c .before .before .before .before .loop in
-    (omega arith, λ ws b m e. sym (values-more ws _ _ (loop-test .taken) (sym (is-value .ensures _ (bears-below _ _ b e (omega (arith, loop-test .taken, start .pre .0))) (small-below _ m)) ∙ not-false _ (if1 .left))) ∙ loop .inv .1 ws b m e)
+    let loop = c .before .before .before .before .loop in (
+      omega arith,
+      λ ws b m e.
+          sym
+          (values-more ws _ _ (loop-test .taken)
+          (sym
+          (is-value .ensures _ (bears-below _ _ b e (omega (arith, loop-test .taken, start .pre .0)))
+          (small-below _ m))
+          ∙ not-false _ (if1 .left)))
+          ∙ loop .inv .1 ws b m e,
+    )
 
--- src/builds.rt:111:1
 returns-2 : tie.Need-returns-2 Inv-loop μ-loop
 returns-2 c =
     let loop = c .before .loop in

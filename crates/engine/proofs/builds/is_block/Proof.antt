@@ -1,18 +1,13 @@
-use mathlib.Core.Path.{_≡_, refl, sym}
 use borrow.Author.Tests.{eq-eqb, ne-eqb}
 use Rattle.engine.proofs.builds.is_block.Statement.{statement}
 use Rattle.engine.proofs.builds.is_block.Tie as tie
-use Rattle.engine.proofs.builds.is_block.Reads as reads
-use Rattle.engine.proofs.builds.is_block.Lts as lts
 
--- src/builds.rt:143:9
 returns : tie.Need-returns
 returns c =
     let start = c .before in
     let if1 = c .if1 in
     rw (eq-eqb (start .args .h) 262144 (if1 .taken))
 
--- src/builds.rt:139:1
 returns-2 : tie.Need-returns-2
 returns-2 c =
     let start = c .before in

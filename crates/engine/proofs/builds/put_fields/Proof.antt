@@ -1,13 +1,10 @@
-use mathlib.Core.Path.{_≡_, refl}
+use mathlib.Core.Path.{refl}
 use native.Mathlib.Omega.{arith}
-use Prim.Native.Nat.{ℕ, _+_, _-_, _≤_}
-use lib.ListN.{length}
+use Prim.Native.Nat.{_-_, _≤_}
 use Rattle.engine.specs.Blocks.{Placed, fromTop}
 use Rattle.engine.proofs.Building.{placed-none, placed-more, placed-all}
 use Rattle.engine.proofs.builds.put_fields.Statement.{statement}
 use Rattle.engine.proofs.builds.put_fields.Tie as tie
-use Rattle.engine.proofs.builds.put_fields.Reads as reads
-use Rattle.engine.proofs.builds.put_fields.Lts as lts
 
 abbrev Inv-loop : tie.InvT-loop
 Inv-loop stack sp heap₀ at a i₀ heap i = (i ≤ a) × Placed heap₀ heap at i (fromTop stack sp)
@@ -15,64 +12,51 @@ Inv-loop stack sp heap₀ at a i₀ heap i = (i ≤ a) × Placed heap₀ heap at
 abbrev μ-loop : tie.MeasureT-loop
 μ-loop stack sp heap₀ at a i₀ heap i = a - i
 
--- src/builds.rt:132:5
 loop-holds : tie.Need-loop-holds Inv-loop μ-loop
 loop-holds c = (omega arith, placed-none _ _ _)
 
--- src/builds.rt:133:36
 add-heap : tie.Need-add-heap Inv-loop μ-loop
 add-heap c = omega arith
 
--- src/builds.rt:133:30
 sub-heap : tie.Need-sub-heap Inv-loop μ-loop
 sub-heap c = omega arith
 
--- src/builds.rt:133:24
 mul-heap : tie.Need-mul-heap Inv-loop μ-loop
 mul-heap c = omega arith
 
--- src/builds.rt:133:24
 shared-slice-read-heap : tie.Need-shared-slice-read-heap Inv-loop μ-loop
 shared-slice-read-heap c = omega arith
 
--- src/builds.rt:133:14
 add-heap-2 : tie.Need-add-heap-2 Inv-loop μ-loop
 add-heap-2 c = omega arith
 
--- src/builds.rt:133:9
 mul-heap-2 : tie.Need-mul-heap-2 Inv-loop μ-loop
 mul-heap-2 c =
     let loop = c .before .before .loop in
     omega (arith, loop .inv .1 .long)
 
--- src/builds.rt:133:9
 slice-write-heap : tie.Need-slice-write-heap Inv-loop μ-loop
 slice-write-heap c =
     let loop = c .before .before .loop in
     omega (arith, loop .inv .1 .long)
 
--- src/builds.rt:134:9
 add-i : tie.Need-add-i Inv-loop μ-loop
 add-i c = omega arith
 
--- src/builds.rt:132:5
 loop-less : tie.Need-loop-less Inv-loop μ-loop
 loop-less c = omega arith
 
--- src/builds.rt:132:5
 loop-again : tie.Need-loop-again Inv-loop μ-loop
 loop-again c =
     let loop = c .before .before .loop in
     let start = c .before .before .before in
     (omega arith, placed-more _ _ _ _ _ _ (loop .inv .1) refl (omega (arith, start .pre .2)))
 
--- src/builds.rt:127:1
 same-length : tie.Need-same-length Inv-loop μ-loop
 same-length c =
     let loop = c .before .loop in
     loop .inv .1 .long
 
--- src/builds.rt:127:1
 returns : tie.Need-returns Inv-loop μ-loop
 returns c =
     let loop-test = c .loop-test in

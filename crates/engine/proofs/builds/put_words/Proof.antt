@@ -1,13 +1,10 @@
-use mathlib.Core.Path.{_≡_, refl}
+use mathlib.Core.Path.{refl}
 use native.Mathlib.Omega.{arith}
-use Prim.Native.Nat.{ℕ, _+_, _-_, _≤_}
-use lib.ListN.{length}
+use Prim.Native.Nat.{_-_, _≤_}
 use Rattle.engine.specs.Blocks.{Placed, fromPlace}
 use Rattle.engine.proofs.Building.{placed-none, placed-more, placed-all}
 use Rattle.engine.proofs.builds.put_words.Statement.{statement}
 use Rattle.engine.proofs.builds.put_words.Tie as tie
-use Rattle.engine.proofs.builds.put_words.Reads as reads
-use Rattle.engine.proofs.builds.put_words.Lts as lts
 
 abbrev Inv-loop : tie.InvT-loop
 Inv-loop heap from stack₀ at n i₀ stack i = (i ≤ n) × Placed stack₀ stack at i (fromPlace heap from)
@@ -15,60 +12,48 @@ Inv-loop heap from stack₀ at n i₀ stack i = (i ≤ n) × Placed stack₀ sta
 abbrev μ-loop : tie.MeasureT-loop
 μ-loop heap from stack₀ at n i₀ stack i = n - i
 
--- src/builds.rt:154:5
 loop-holds : tie.Need-loop-holds Inv-loop μ-loop
 loop-holds c = (omega arith, placed-none _ _ _)
 
--- src/builds.rt:155:30
 add-stack : tie.Need-add-stack Inv-loop μ-loop
 add-stack c = omega arith
 
--- src/builds.rt:155:25
 mul-stack : tie.Need-mul-stack Inv-loop μ-loop
 mul-stack c = omega arith
 
--- src/builds.rt:155:25
 shared-slice-read-stack : tie.Need-shared-slice-read-stack Inv-loop μ-loop
 shared-slice-read-stack c = omega arith
 
--- src/builds.rt:155:15
 add-stack-2 : tie.Need-add-stack-2 Inv-loop μ-loop
 add-stack-2 c = omega arith
 
--- src/builds.rt:155:9
 mul-stack-2 : tie.Need-mul-stack-2 Inv-loop μ-loop
 mul-stack-2 c =
     let loop = c .before .before .loop in
     omega (arith, loop .inv .1 .long)
 
--- src/builds.rt:155:9
 slice-write-stack : tie.Need-slice-write-stack Inv-loop μ-loop
 slice-write-stack c =
     let loop = c .before .before .loop in
     omega (arith, loop .inv .1 .long)
 
--- src/builds.rt:156:9
 add-i : tie.Need-add-i Inv-loop μ-loop
 add-i c = omega arith
 
--- src/builds.rt:154:5
 loop-less : tie.Need-loop-less Inv-loop μ-loop
 loop-less c = omega arith
 
--- src/builds.rt:154:5
 loop-again : tie.Need-loop-again Inv-loop μ-loop
 loop-again c =
     let loop = c .before .before .loop in
     let start = c .before .before .before in
     (omega arith, placed-more _ _ _ _ _ _ (loop .inv .1) refl (omega (arith, start .pre .1)))
 
--- src/builds.rt:149:1
 same-length : tie.Need-same-length Inv-loop μ-loop
 same-length c =
     let loop = c .before .loop in
     loop .inv .1 .long
 
--- src/builds.rt:149:1
 returns : tie.Need-returns Inv-loop μ-loop
 returns c =
     let loop-test = c .loop-test in

@@ -1,4 +1,3 @@
-use mathlib.Core.Path.{_≡_, refl}
 use borrow.Author.Tests.{eq-eqb, ne-eqb}
 use Rattle.hume.specs.Tests.{pick}
 use Rattle.arith.specs.Cuts.{cut}
@@ -6,25 +5,19 @@ use Rattle.engine.specs.Outcomes.{cutting}
 use borrow.Author.Needs.{needs}
 use Rattle.engine.proofs.prims.converted.Statement.{statement}
 use Rattle.engine.proofs.prims.converted.Tie as tie
-use Rattle.engine.proofs.prims.converted.Reads as reads
-use Rattle.engine.proofs.prims.converted.Lts as lts
 
--- src/prims.rt:104:9
 returns : tie.Need-returns
 unfolding cutting pick
 returns c =
     let if1 = c .if1 in
     rw (ne-eqb _ _ (if1 .taken))
 
--- src/prims.rt:107:20
 enum-known-c : tie.Need-enum-known-c
 enum-known-c c = search needs
 
--- src/prims.rt:108:21
 enum-told : tie.Need-enum-told
 enum-told c = search needs
 
--- src/prims.rt:100:1
 returns-2 : tie.Need-returns-2
 unfolding cutting pick cut
 returns-2 c =
@@ -32,7 +25,6 @@ returns-2 c =
     let c = c .before .c in
     rw (eq-eqb _ _ (if1 .left), c .given .1)
 
--- src/prims.rt:100:1
 returns-3 : tie.Need-returns-3
 unfolding cutting pick cut
 returns-3 c =

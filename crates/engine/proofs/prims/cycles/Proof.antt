@@ -1,69 +1,67 @@
-use mathlib.Core.Path.{_≡_}
 use native.Mathlib.Omega.{arith}
 use Rattle.engine.proofs.Yielding.{cycles-one, cycles-two}
 use borrow.Author.Needs.{needs}
 use Rattle.engine.proofs.prims.cycles.Statement.{statement}
 use Rattle.engine.proofs.prims.cycles.Tie as tie
-use Rattle.engine.proofs.prims.cycles.Reads as reads
-use Rattle.engine.proofs.prims.cycles.Lts as lts
 
--- src/prims.rt:190:23
 sub-result : tie.Need-sub-result
 sub-result c =
     let start = c .before in
     let if1 = c .if1 in
     let p = start .pre .one (if1 .taken) in omega (arith, p .0, p .1)
 
--- src/prims.rt:190:16
 mul-result : tie.Need-mul-result
 mul-result c =
     let start = c .before in
     let if1 = c .if1 in
     let p = start .pre .one (if1 .taken) in omega (arith, p .0, p .1)
 
--- src/prims.rt:190:16
 array-read-result : tie.Need-array-read-result
 array-read-result c =
     let start = c .before in
     let if1 = c .if1 in
     let p = start .pre .one (if1 .taken) in omega (arith, p .0, p .1)
 
--- src/prims.rt:190:9
 returns : tie.Need-returns
 returns c =
     let start = c .before in
     let if1 = c .if1 in
-    let p = start .pre .one (if1 .taken) in record { one = λ e. cycles-one _ (p .0) (p .1); two = λ e. absurd (let z : ⊥ = omega (arith, e, if1 .taken) in z); three = λ e. absurd (let z : ⊥ = omega (arith, e, if1 .taken) in z) }
+    let p = start .pre .one (if1 .taken) in
+    record {
+      one = λ e. cycles-one _ (p .0) (p .1);
+      two = λ e. absurd (let z : ⊥ = omega (arith, e, if1 .taken) in z);
+      three = λ e. absurd (let z : ⊥ = omega (arith, e, if1 .taken) in z);
+    }
 
--- src/prims.rt:193:23
 add-result : tie.Need-add-result
 add-result c =
     let start = c .before .before in
     let if2 = c .if2 in
     let p = start .pre .two (if2 .taken) in omega (arith, p .0, p .1)
 
--- src/prims.rt:193:16
 mul-result-2 : tie.Need-mul-result-2
 mul-result-2 c =
     let start = c .before .before in
     let if2 = c .if2 in
     let p = start .pre .two (if2 .taken) in omega (arith, p .0, p .1)
 
--- src/prims.rt:193:16
 array-read-result-2 : tie.Need-array-read-result-2
 array-read-result-2 c =
     let start = c .before .before in
     let if2 = c .if2 in
     let p = start .pre .two (if2 .taken) in omega (arith, p .0, p .1)
 
--- src/prims.rt:193:9
 returns-2 : tie.Need-returns-2
 returns-2 c =
     let start = c .before .before in
     let if2 = c .if2 in
-    let p = start .pre .two (if2 .taken) in record { one = λ e. absurd (let z : ⊥ = omega (arith, e, if2 .taken) in z); two = λ e. cycles-two _ (p .0) (p .1); three = λ e. absurd (let z : ⊥ = omega (arith, e, if2 .taken) in z) }
+    let p = start .pre .two (if2 .taken) in
+    record {
+      one = λ e. absurd (let z : ⊥ = omega (arith, e, if2 .taken) in z);
+      two = λ e. cycles-two _ (p .0) (p .1);
+      three = λ e. absurd (let z : ⊥ = omega (arith, e, if2 .taken) in z);
+    }
 
--- src/prims.rt:185:1
 returns-3 : tie.Need-returns-3
 returns-3 c = search needs
 

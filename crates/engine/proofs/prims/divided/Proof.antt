@@ -1,20 +1,15 @@
-use mathlib.Core.Path.{_≡_, refl}
 use borrow.Author.Tests.{eq-eqb, ne-eqb}
 use Rattle.hume.specs.Tests.{pick}
 use Rattle.engine.specs.Outcomes.{quotient}
 use Rattle.engine.proofs.prims.divided.Statement.{statement}
 use Rattle.engine.proofs.prims.divided.Tie as tie
-use Rattle.engine.proofs.prims.divided.Reads as reads
-use Rattle.engine.proofs.prims.divided.Lts as lts
 
--- src/prims.rt:91:9
 returns : tie.Need-returns
 unfolding quotient pick
 returns c =
     let if1 = c .if1 in
     rw (ne-eqb _ _ (if1 .taken))
 
--- src/prims.rt:94:9
 returns-2 : tie.Need-returns-2
 unfolding quotient pick
 returns-2 c =
@@ -22,7 +17,6 @@ returns-2 c =
     let if2 = c .if2 in
     rw (eq-eqb _ _ (if1 .left), eq-eqb _ _ (if2 .taken))
 
--- src/prims.rt:87:1
 returns-3 : tie.Need-returns-3
 unfolding quotient pick
 returns-3 c =

@@ -1,23 +1,17 @@
-use mathlib.Core.Path.{_≡_, _∙_}
+use mathlib.Core.Path.{_∙_}
 use Rattle.engine.proofs.Yielding.{or-yes, or-no}
 use borrow.Author.Needs.{needs}
 use Rattle.engine.proofs.prims.either.Statement.{statement}
 use Rattle.engine.proofs.prims.either.Tie as tie
-use Rattle.engine.proofs.prims.either.Reads as reads
-use Rattle.engine.proofs.prims.either.Lts as lts
-use Rattle.engine.proofs.prims.truth.Reads as truth-reads
 
--- src/prims.rt:72:28
 truth-requires : tie.Need-truth-requires
 truth-requires c κs = search needs
 
--- src/prims.rt:69:1
 returns : tie.Need-returns
 returns c =
     let if1 = c .if1 in
     or-yes _ _ (if1 .taken)
 
--- src/prims.rt:69:1
 returns-2 : tie.Need-returns-2
 returns-2 c =
     let truth = c .truth in

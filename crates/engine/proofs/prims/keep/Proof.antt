@@ -1,20 +1,15 @@
-use mathlib.Core.Path.{_≡_, refl}
 use borrow.Author.Tests.{eq-eqb, ne-eqb}
 use Rattle.hume.specs.Tests.{pick}
 use Rattle.engine.specs.Outcomes.{kept}
 use Rattle.engine.proofs.prims.keep.Statement.{statement}
 use Rattle.engine.proofs.prims.keep.Tie as tie
-use Rattle.engine.proofs.prims.keep.Reads as reads
-use Rattle.engine.proofs.prims.keep.Lts as lts
 
--- src/prims.rt:76:1
 returns : tie.Need-returns
 unfolding kept pick
 returns c =
     let if1 = c .if1 in
     rw (eq-eqb _ _ (if1 .taken))
 
--- src/prims.rt:76:1
 returns-2 : tie.Need-returns-2
 unfolding kept pick
 returns-2 c =

@@ -1,47 +1,32 @@
-use mathlib.Core.Path.{_≡_, refl, _∙_, ap, sym}
+use mathlib.Core.Path.{refl, ap}
 use native.Mathlib.Omega.{arith}
 use Rattle.hume.specs.Primitives.{prim1, oneOperand, isTrue}
 use Rattle.engine.proofs.Yielding.{arm, arm-cut, arm-none, first-one, beyond-one, avoids}
 use borrow.Author.Needs.{needs}
 use Rattle.engine.proofs.prims.prim1.Statement.{statement}
 use Rattle.engine.proofs.prims.prim1.Tie as tie
-use Rattle.engine.proofs.prims.prim1.Reads as reads
-use Rattle.engine.proofs.prims.prim1.Lts as lts
-use Rattle.arith.proofs.to_float.Reads as to-float-reads
-use Rattle.arith.proofs.to_int.Reads as to-int-reads
-use Rattle.engine.proofs.prims.converted.Reads as converted-reads
-use Rattle.engine.proofs.prims.keep.Reads as keep-reads
-use Rattle.engine.proofs.prims.truth.Reads as truth-reads
 
--- src/prims.rt:118:38
 to-float-requires : tie.Need-to-float-requires
 to-float-requires c κs = search needs
 
--- src/prims.rt:118:14
 keep-requires : tie.Need-keep-requires
 keep-requires c κs = search needs
 
--- src/prims.rt:119:27
 to-int-requires : tie.Need-to-int-requires
 to-int-requires c κs = search needs
 
--- src/prims.rt:119:14
 converted-requires : tie.Need-converted-requires
 converted-requires c κs = search needs
 
--- src/prims.rt:117:40
 truth-requires : tie.Need-truth-requires
 truth-requires c κs = search needs
 
--- src/prims.rt:117:18
 keep-requires-2 : tie.Need-keep-requires-2
 keep-requires-2 c κs = search needs
 
--- src/prims.rt:120:14
 keep-requires-3 : tie.Need-keep-requires-3
 keep-requires-3 c κs = search needs
 
--- src/prims.rt:113:1
 returns : tie.Need-returns
 unfolding prim1 oneOperand
 returns c =
@@ -49,9 +34,9 @@ returns c =
     let match = c .before .before .match in
     let keep = c .keep in
     let to-float = c .before .to-float in
-    arm prim1 (start .args .a) (start .args .h) (start .args .x) 0 2 _ _ (ap prim1 (match .keys1)) (keep .ensures) (to-float .ensures) refl
+    arm prim1 (start .args .a) (start .args .h) (start .args .x) 0 2 _ _ (ap prim1 (match .keys1)) (keep .ensures)
+    (to-float .ensures) refl
 
--- src/prims.rt:113:1
 returns-2 : tie.Need-returns-2
 returns-2 c =
     let match = c .before .before .match in
@@ -59,7 +44,6 @@ returns-2 c =
     let to-int = c .before .to-int in
     arm-cut _ _ _ _ (match .keys2) (converted .ensures) (to-int .ensures)
 
--- src/prims.rt:113:1
 returns-3 : tie.Need-returns-3
 unfolding prim1 oneOperand isTrue
 returns-3 c =
@@ -67,16 +51,17 @@ returns-3 c =
     let if1 = c .before .before .if1 in
     let keep2 = c .keep2 in
     let truth = c .before .truth in
-    arm prim1 (start .args .a) (start .args .h) (start .args .x) 0 1 _ _ (first-one (start .args .a) (omega (arith, if1 .taken))) (keep2 .ensures) (truth .ensures) refl
+    arm prim1 (start .args .a) (start .args .h) (start .args .x) 0 1 _ _
+    (first-one (start .args .a) (omega (arith, if1 .taken))) (keep2 .ensures) (truth .ensures) refl
 
--- src/prims.rt:113:1
 returns-4 : tie.Need-returns-4
 returns-4 c =
     let start = c .before .before .before in
     let if1 = c .before .if1 in
     let match = c .before .before .match in
     let keep3 = c .keep3 in
-    arm-none prim1 _ _ _ _ (beyond-one (start .args .a) (avoids (start .args .a) 2 2 (if1 .left) (match .rest))) (keep3 .ensures)
+    arm-none prim1 _ _ _ _ (beyond-one (start .args .a) (avoids (start .args .a) 2 2 (if1 .left) (match .rest)))
+    (keep3 .ensures)
 
 pub prim1-spec : {M : Type 1} → statement M
 prim1-spec =

@@ -2,21 +2,15 @@ use Rattle.engine.proofs.Yielding.{unlike, alike}
 use borrow.Author.Needs.{needs}
 use Rattle.engine.proofs.prims.prim2.Statement.{statement}
 use Rattle.engine.proofs.prims.prim2.Tie as tie
-use Rattle.engine.proofs.prims.prim2.Reads as reads
-use Rattle.engine.proofs.prims.prim2.Lts as lts
-use Rattle.engine.proofs.prims.pair.Reads as pair-reads
 
--- src/prims.rt:159:9
 returns : tie.Need-returns
 returns c =
     let if1 = c .if1 in
     unlike _ _ _ _ _ (if1 .taken)
 
--- src/prims.rt:161:5
 pair-requires : tie.Need-pair-requires
 pair-requires c κs = search needs
 
--- src/prims.rt:155:1
 returns-2 : tie.Need-returns-2
 returns-2 c =
     let if1 = c .before .if1 in

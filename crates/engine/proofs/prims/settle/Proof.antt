@@ -1,35 +1,26 @@
-use mathlib.Core.Path.{_≡_, refl}
 use borrow.Author.Needs.{needs}
 use Rattle.engine.proofs.prims.settle.Statement.{statement}
 use Rattle.engine.proofs.prims.settle.Tie as tie
-use Rattle.engine.proofs.prims.settle.Reads as reads
-use Rattle.engine.proofs.prims.settle.Lts as lts
 
--- src/prims.rt:178:24
 enum-known-y : tie.Need-enum-known-y
 enum-known-y c = search needs
 
--- src/prims.rt:179:25
 enum-known-y-2 : tie.Need-enum-known-y-2
 enum-known-y-2 c = search needs
 
--- src/prims.rt:180:27
 enum-told : tie.Need-enum-told
 enum-told c = search needs
 
--- src/prims.rt:174:1
 returns : tie.Need-returns
 returns c =
     let y = c .before .y in
     rw (y .given .1)
 
--- src/prims.rt:174:1
 returns-2 : tie.Need-returns-2
 returns-2 c =
     let y2 = c .before .y2 in
     rw (y2 .given .1)
 
--- src/prims.rt:174:1
 returns-3 : tie.Need-returns-3
 returns-3 c = search needs
 

@@ -1,49 +1,37 @@
-use mathlib.Core.Path.{_≡_, refl, sym, _∙_, ap}
+use mathlib.Core.Path.{ap}
 use native.Mathlib.Omega.{arith}
 use Prim.Native.Nat.{ℕ, _+_}
 use Rattle.engine.proofs.Yielding.{deals-meet, fault-meets}
 use borrow.Author.Needs.{needs}
 use Rattle.engine.proofs.regs.Regs.apply.Statement.{statement}
 use Rattle.engine.proofs.regs.Regs.apply.Tie as tie
-use Rattle.engine.proofs.regs.Regs.apply.Reads as reads
-use Rattle.engine.proofs.regs.Regs.apply.Lts as lts
-use Rattle.engine.proofs.prims.cycles.Reads as cycles-reads
-use Rattle.engine.proofs.regs.Regs.give.Reads as give-reads
-use Rattle.engine.proofs.regs.Regs.halt.Reads as halt-reads
-use Rattle.engine.proofs.regs.Regs.raise.Reads as raise-reads
-use Rattle.engine.proofs.regs.Regs.try_any.Reads as try-any-reads
 
--- src/prims.rt:353:13
 try-any-requires : tie.Need-try-any-requires
 try-any-requires c κs =
     let start = c .before .before .before .before in
-    (start .pre .0, (start .pre .1 .0, (start .pre .1 .1 .0, (start .pre .1 .1 .1 .0, start .pre .1 .1 .1 .1 .0))))
+    let f = start .pre .0 in (
+      (f .lp, omega (arith, f .sp, start .pre .1 .0), omega (arith, f .hp, start .pre .1 .1 .0)),
+      (start .pre .1 .1 .1 .0, start .pre .1 .1 .1 .1 .0),
+    )
 
--- src/prims.rt:354:27
 cycles-requires : tie.Need-cycles-requires
 cycles-requires c κs = search needs
 
--- src/prims.rt:354:27
 cast-time : tie.Need-cast-time
 cast-time c = search needs
 
--- src/prims.rt:354:20
 add-time : tie.Need-add-time
 add-time c = search needs
 
--- src/prims.rt:356:28
 enum-known-o : tie.Need-enum-known-o
 enum-known-o c = search needs
 
--- src/prims.rt:356:34
 halt-requires : tie.Need-halt-requires
 halt-requires c κs = search needs
 
--- src/prims.rt:357:28
 enum-known-o-2 : tie.Need-enum-known-o-2
 enum-known-o-2 c = search needs
 
--- src/prims.rt:357:42
 give-requires : tie.Need-give-requires
 give-requires c κs =
     let start = c .before .before .before .before .before .before .before .before .before .before .before in
@@ -51,11 +39,9 @@ give-requires c κs =
     let o2 = c .before .before .before .o2 in
     (start .pre .0, (start .pre .1 .0, (start .pre .1 .1 .0, try-any .ensures .fair .lower _ _ _ (o2 .given .1))))
 
--- src/prims.rt:358:29
 enum-known-o-3 : tie.Need-enum-known-o-3
 enum-known-o-3 c = search needs
 
--- src/prims.rt:358:38
 raise-requires : tie.Need-raise-requires
 raise-requires c κs =
     let start = c .before .before .before .before .before .before .before .before .before .before .before in
@@ -63,57 +49,75 @@ raise-requires c κs =
     let o3 = c .before .before .before .o3 in
     (start .pre .0, (start .pre .1 .0, (start .pre .1 .1 .0, try-any .ensures .fair .number _ _ (o3 .given .1))))
 
--- src/prims.rt:341:5
 same-length : tie.Need-same-length
 same-length c = search needs
 
--- src/prims.rt:341:5
 same-length-2 : tie.Need-same-length-2
 same-length-2 c = search needs
 
--- src/prims.rt:341:5
 returns : tie.Need-returns
 returns c =
     let try-any = c .before .before .before .before .before .try-any in
     let o = c .before .before .o in
-    let halt = c .halt in
-    (λ P wi or d e. deals-meet P _ wi or (try-any .ensures .one e) (o .given .1) (fault-meets _ _ (halt .ensures)), (λ P wi or d e. deals-meet P _ wi or (try-any .ensures .two e) (o .given .1) (fault-meets _ _ (halt .ensures)), λ P wi or d e. deals-meet P _ wi or (try-any .ensures .three e) (o .given .1) (fault-meets _ _ (halt .ensures))))
+    let halt = c .halt in (
+      λ P wi or d e. deals-meet P _ wi or (try-any .ensures .one e) (o .given .1) (fault-meets _ _ (halt .ensures)),
+      (
+        λ P wi or d e. deals-meet P _ wi or (try-any .ensures .two e) (o .given .1) (fault-meets _ _ (halt .ensures)),
+        λ P wi or d e. deals-meet P _ wi or (try-any .ensures .three e) (o .given .1) (fault-meets _ _ (halt .ensures)),
+      ),
+    )
 
--- src/prims.rt:341:5
 same-length-3 : tie.Need-same-length-3
 same-length-3 c = search needs
 
--- src/prims.rt:341:5
 same-length-4 : tie.Need-same-length-4
 same-length-4 c = search needs
 
--- src/prims.rt:341:5
 returns-2 : tie.Need-returns-2
 returns-2 c =
     let try-any = c .before .before .before .before .before .before .before .before .before .before .before .try-any in
     let o2 = c .before .before .before .before .before .before .before .before .o2 in
     let give = c .before .before .before .before .give in
     let start = c .before .before .before .before .before .before .before .before .before .before .before .before .before .before .before .before in
-    let cycles = c .before .before .before .before .before .before .before .before .before .before .cycles in
-    (λ P wi or d e. deals-meet P _ wi or (try-any .ensures .one e) (o2 .given .1) (give .ensures P _ _ wi or (ap (λ (n : ℕ). start .args .cost + n) (cycles .ensures .one e))), (λ P wi or d e. deals-meet P _ wi or (try-any .ensures .two e) (o2 .given .1) (give .ensures P _ _ wi or (ap (λ (n : ℕ). start .args .cost + n) (cycles .ensures .two e))), λ P wi or d e. deals-meet P _ wi or (try-any .ensures .three e) (o2 .given .1) (give .ensures P _ _ wi or (ap (λ (n : ℕ). start .args .cost + n) (cycles .ensures .three e)))))
+    let cycles = c .before .before .before .before .before .before .before .before .before .before .cycles in (
+      λ P wi or d e.
+          deals-meet P _ wi or (try-any .ensures .one e) (o2 .given .1)
+          (give .ensures P _ _ wi or (ap (λ (n : ℕ). start .args .cost + n) (cycles .ensures .one e))),
+      (
+        λ P wi or d e.
+            deals-meet P _ wi or (try-any .ensures .two e) (o2 .given .1)
+            (give .ensures P _ _ wi or (ap (λ (n : ℕ). start .args .cost + n) (cycles .ensures .two e))),
+        λ P wi or d e.
+            deals-meet P _ wi or (try-any .ensures .three e) (o2 .given .1)
+            (give .ensures P _ _ wi or (ap (λ (n : ℕ). start .args .cost + n) (cycles .ensures .three e))),
+      ),
+    )
 
--- src/prims.rt:341:5
 same-length-5 : tie.Need-same-length-5
 same-length-5 c = search needs
 
--- src/prims.rt:341:5
 same-length-6 : tie.Need-same-length-6
 same-length-6 c = search needs
 
--- src/prims.rt:341:5
 returns-3 : tie.Need-returns-3
 returns-3 c =
     let try-any = c .before .before .before .before .before .before .before .before .before .before .before .try-any in
     let o3 = c .before .before .before .before .before .before .before .before .o3 in
     let raise = c .before .before .before .before .raise in
     let start = c .before .before .before .before .before .before .before .before .before .before .before .before .before .before .before .before in
-    let cycles = c .before .before .before .before .before .before .before .before .before .before .cycles in
-    (λ P wi or d e. deals-meet P _ wi or (try-any .ensures .one e) (o3 .given .1) (raise .ensures P _ _ wi or d (ap (λ (n : ℕ). start .args .cost + n) (cycles .ensures .one e))), (λ P wi or d e. deals-meet P _ wi or (try-any .ensures .two e) (o3 .given .1) (raise .ensures P _ _ wi or d (ap (λ (n : ℕ). start .args .cost + n) (cycles .ensures .two e))), λ P wi or d e. deals-meet P _ wi or (try-any .ensures .three e) (o3 .given .1) (raise .ensures P _ _ wi or d (ap (λ (n : ℕ). start .args .cost + n) (cycles .ensures .three e)))))
+    let cycles = c .before .before .before .before .before .before .before .before .before .before .cycles in (
+      λ P wi or d e.
+          deals-meet P _ wi or (try-any .ensures .one e) (o3 .given .1)
+          (raise .ensures P _ _ wi or d (ap (λ (n : ℕ). start .args .cost + n) (cycles .ensures .one e))),
+      (
+        λ P wi or d e.
+            deals-meet P _ wi or (try-any .ensures .two e) (o3 .given .1)
+            (raise .ensures P _ _ wi or d (ap (λ (n : ℕ). start .args .cost + n) (cycles .ensures .two e))),
+        λ P wi or d e.
+            deals-meet P _ wi or (try-any .ensures .three e) (o3 .given .1)
+            (raise .ensures P _ _ wi or d (ap (λ (n : ℕ). start .args .cost + n) (cycles .ensures .three e))),
+      ),
+    )
 
 pub apply-spec : {M : Type 1} → statement M
 apply-spec =

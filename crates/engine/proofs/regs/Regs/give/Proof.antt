@@ -10,31 +10,22 @@ use Rattle.engine.proofs.Yielding.{give-leads}
 use borrow.Author.Needs.{needs}
 use Rattle.engine.proofs.regs.Regs.give.Statement.{statement}
 use Rattle.engine.proofs.regs.Regs.give.Tie as tie
-use Rattle.engine.proofs.regs.Regs.give.Reads as reads
-use Rattle.engine.proofs.regs.Regs.give.Lts as lts
-use Rattle.engine.proofs.regs.Regs.charge.Reads as charge-reads
 
--- src/prims.rt:292:19
 add-next : tie.Need-add-next
 add-next c = search needs
 
--- src/prims.rt:293:19
 add-next-2 : tie.Need-add-next-2
 add-next-2 c = search needs
 
--- src/prims.rt:294:19
 add-next-3 : tie.Need-add-next-3
 add-next-3 c = search needs
 
--- src/prims.rt:295:13
 charge-requires : tie.Need-charge-requires
 charge-requires c κs = search needs
 
--- src/prims.rt:297:13
 mul-heap : tie.Need-mul-heap
 mul-heap c = search needs
 
--- src/prims.rt:297:13
 slice-write-heap : tie.Need-slice-write-heap
 slice-write-heap c =
     let charge = c .before .charge in
@@ -42,15 +33,12 @@ slice-write-heap c =
     let start = c .before .before .before .before .before in
     let p = went-on (charge .ensures) (if1 .taken) in omega (arith, p .heap, start .pre .1 .1 .0)
 
--- src/prims.rt:298:18
 add-heap : tie.Need-add-heap
 add-heap c = search needs
 
--- src/prims.rt:298:13
 mul-heap-2 : tie.Need-mul-heap-2
 mul-heap-2 c = search needs
 
--- src/prims.rt:298:13
 slice-write-heap-2 : tie.Need-slice-write-heap-2
 slice-write-heap-2 c =
     let charge = c .before .charge in
@@ -58,45 +46,62 @@ slice-write-heap-2 c =
     let start = c .before .before .before .before .before in
     let p = went-on (charge .ensures) (if1 .taken) in simp length-set (omega (arith, p .heap, start .pre .1 .1 .0))
 
--- src/prims.rt:299:38
 cast-stack : tie.Need-cast-stack
 cast-stack c = search needs
 
--- src/prims.rt:299:26
 add-stack : tie.Need-add-stack
 add-stack c = search needs
 
--- src/prims.rt:299:13
 mul-stack : tie.Need-mul-stack
 mul-stack c = search needs
 
--- src/prims.rt:299:13
 slice-write-stack : tie.Need-slice-write-stack
 slice-write-stack c = search needs
 
--- src/prims.rt:283:5
 same-length : tie.Need-same-length
 same-length c = search needs
 
--- src/prims.rt:283:5
 same-length-2 : tie.Need-same-length-2
 same-length-2 c = search needs
 
--- src/prims.rt:283:5
 returns : tie.Need-returns
 returns c =
     let start = c .before .before .before .before .before in
     let charge = c .before .charge in
     let if1 = c .if1 in
-    λ P t k wi or d. record { each = λ ws hs h m n. settle-yes (give-leads (start .pre .0) h wi or P _ t k _ _ _ (start .pre .1 .1 .1 .0) (start .pre .1 .1 .1 .1) d) _ _ (charge .ensures) (if1 .taken) (λ a b. record { stack = bears-push _ _ _ _ _ (bears-take _ ws (start .args .low) (omega (arith, start .pre .1 .1 .1 .1, h .sp)) (h .stack)) (sym (length-take-le (start .args .low) ws (omega (arith, start .pre .1 .1 .1 .1, h .sp)))) (bits-ref _ _ (h .hp)) (omega (arith, start .pre .1 .0, a)); heap = bears-two _ hs _ _ _ _ _ _ (h .heap) (h .hp) refl (sym (bits-raw _)) (sym (bits-raw _)) (omega (arith, start .pre .1 .1 .0, b)); wires = refl; order = refl }) }
+    λ P t k wi or d.
+    record {
+      each = λ ws hs h m n.
+          settle-yes
+          (give-leads h wi or (start .pre .0) P _ t k _ _ _ (start .pre .1 .1 .1 .0) (start .pre .1 .1 .1 .1) d) _
+          _ (charge .ensures) (if1 .taken)
+          (λ a b.
+          record {
+            stack =
+                bears-push _ _ _ _ _
+                (bears-take _ ws (start .args .low) (omega (arith, start .pre .1 .1 .1 .1, h .sp)) (h .stack))
+                (sym (length-take-le (start .args .low) ws (omega (arith, start .pre .1 .1 .1 .1, h .sp))))
+                (bits-ref _ _ (h .hp)) (omega (arith, start .pre .1 .0, a));
+            heap =
+                bears-two _ hs _ _ _ _ _ _ (h .heap) (h .hp) refl (sym (bits-raw _)) (sym (bits-raw _))
+                (omega (arith, start .pre .1 .1 .0, b));
+            wires = refl;
+            order = refl;
+          });
+    }
 
--- src/prims.rt:283:5
 returns-2 : tie.Need-returns-2
 returns-2 c =
     let start = c .before .before .before .before .before in
     let charge = c .before .charge in
     let if1 = c .if1 in
-    λ P t k wi or d. record { each = λ ws hs h m n. settle-no (give-leads (start .pre .0) h wi or P _ t k _ _ _ (start .pre .1 .1 .1 .0) (start .pre .1 .1 .1 .1) d) _ (charge .ensures) (if1 .left) }
+    λ P t k wi or d.
+    record {
+      each = λ ws hs h m n.
+          settle-no
+          (give-leads h wi or (start .pre .0) P _ t k _ _ _ (start .pre .1 .1 .1 .0) (start .pre .1 .1 .1 .1) d) _
+          (charge .ensures) (if1 .left);
+    }
 
 pub give-spec : {M : Type 1} → statement M
 give-spec =

@@ -1,29 +1,20 @@
-use mathlib.Core.Path.{_≡_, refl, sym, _∙_, ap}
+use mathlib.Core.Path.{refl, sym, _∙_}
 use native.Mathlib.Omega.{arith}
 use borrow.Author.Tests.{not-true, not-false}
 use lib.ListN.{length-set}
 use Rattle.engine.proofs.Turning.{settle-yes, settle-no, went-on}
 use Rattle.engine.proofs.Areas.{bears-push, bears-without}
-use Rattle.engine.proofs.Building.{block-few, block-wrong, block-leads, bears-block, bits-ref, without-length}
+use Rattle.engine.proofs.Building.{block-few, block-wrong, block-leads, bears-block, bits-ref, without-sp}
 use borrow.Author.Needs.{needs}
 use Rattle.engine.proofs.regs.Regs.mk_block.Statement.{statement}
 use Rattle.engine.proofs.regs.Regs.mk_block.Tie as tie
-use Rattle.engine.proofs.regs.Regs.mk_block.Reads as reads
-use Rattle.engine.proofs.regs.Regs.mk_block.Lts as lts
-use Rattle.engine.proofs.builds.all_values.Reads as all-values-reads
-use Rattle.engine.proofs.builds.put_fields.Reads as put-fields-reads
-use Rattle.engine.proofs.regs.Regs.charge.Reads as charge-reads
-use Rattle.engine.proofs.regs.Regs.halt.Reads as halt-reads
 
--- src/builds.rt:54:12
 sub-if1 : tie.Need-sub-if1
 sub-if1 c = search needs
 
--- src/builds.rt:55:13
 halt-requires : tie.Need-halt-requires
 halt-requires c κs = search needs
 
--- src/builds.rt:55:13
 returns : tie.Need-returns
 returns c =
     let start = c .before .before .before .before .before in
@@ -31,19 +22,15 @@ returns c =
     let halt = c .halt in
     λ wi or. record { each = λ ws hs h m n. block-few (start .pre .0) h _ _ _ _ _ (if1 .taken) (halt .ensures) }
 
--- src/builds.rt:57:13
 all-values-requires : tie.Need-all-values-requires
 all-values-requires c κs = search needs
 
--- src/builds.rt:58:13
 halt-requires-2 : tie.Need-halt-requires-2
 halt-requires-2 c κs = search needs
 
--- src/builds.rt:58:13
 same-length : tie.Need-same-length
 same-length c = search needs
 
--- src/builds.rt:58:13
 returns-2 : tie.Need-returns-2
 returns-2 c =
     let start = c .before .before .before .before .before .before .before .before in
@@ -51,37 +38,34 @@ returns-2 c =
     let all-values = c .before .before .all-values in
     let if2 = c .before .if2 in
     let halt2 = c .halt2 in
-    λ wi or. record { each = λ ws hs h m n. block-wrong (start .pre .0) h _ _ _ _ _ (if1 .left) (sym (all-values .ensures ws (h .stack) m (h .sp)) ∙ not-true _ (if2 .taken)) (halt2 .ensures) }
+    λ wi or.
+    record {
+      each = λ ws hs h m n.
+          block-wrong (start .pre .0) h _ _ _ _ _ (if1 .left)
+          (sym (all-values .ensures ws (h .stack) m (h .sp)) ∙ not-true _ (if2 .taken)) (halt2 .ensures);
+    }
 
--- src/builds.rt:60:19
 sub-low : tie.Need-sub-low
 sub-low c = search needs
 
--- src/builds.rt:62:19
 add-next : tie.Need-add-next
 add-next c = search needs
 
--- src/builds.rt:63:19
 add-next-2 : tie.Need-add-next-2
 add-next-2 c = search needs
 
--- src/builds.rt:63:19
 add-next-3 : tie.Need-add-next-3
 add-next-3 c = search needs
 
--- src/builds.rt:64:19
 add-next-4 : tie.Need-add-next-4
 add-next-4 c = search needs
 
--- src/builds.rt:65:13
 charge-requires : tie.Need-charge-requires
 charge-requires c κs = search needs
 
--- src/builds.rt:67:13
 mul-heap : tie.Need-mul-heap
 mul-heap c = search needs
 
--- src/builds.rt:67:13
 slice-write-heap : tie.Need-slice-write-heap
 slice-write-heap c =
     let charge = c .before .charge in
@@ -89,19 +73,15 @@ slice-write-heap c =
     let start = c .before .before .before .before .before .before .before .before .before .before in
     let p = went-on (charge .ensures) (if3 .taken) in omega (arith, p .heap, start .pre .1 .1 .0)
 
--- src/builds.rt:68:28
 cast-heap : tie.Need-cast-heap
 cast-heap c = search needs
 
--- src/builds.rt:68:18
 add-heap : tie.Need-add-heap
 add-heap c = search needs
 
--- src/builds.rt:68:13
 mul-heap-2 : tie.Need-mul-heap-2
 mul-heap-2 c = search needs
 
--- src/builds.rt:68:13
 slice-write-heap-2 : tie.Need-slice-write-heap-2
 slice-write-heap-2 c =
     let charge = c .before .charge in
@@ -109,32 +89,30 @@ slice-write-heap-2 c =
     let start = c .before .before .before .before .before .before .before .before .before .before in
     let p = went-on (charge .ensures) (if3 .taken) in simp length-set (omega (arith, p .heap, start .pre .1 .1 .0))
 
--- src/builds.rt:69:41
 add-put-fields : tie.Need-add-put-fields
 add-put-fields c = search needs
 
--- src/builds.rt:69:13
 put-fields-requires : tie.Need-put-fields-requires
 put-fields-requires c κs =
     let charge = c .before .before .before .charge in
     let if3 = c .before .before .if3 in
     let if1 = c .before .before .before .before .before .before .before .before .if1 in
     let start = c .before .before .before .before .before .before .before .before .before .before .before .before in
-    let p = went-on (charge .ensures) (if3 .taken) in (omega (arith, if1 .left), omega (arith, start .pre .0 .sp, start .pre .1 .0), simp length-set (omega (arith, p .heap, start .pre .1 .1 .0)))
+    let p = went-on (charge .ensures) (if3 .taken) in (
+      omega (arith, if1 .left),
+      omega (arith, start .pre .0 .sp, start .pre .1 .0),
+      simp length-set (omega (arith, p .heap, start .pre .1 .1 .0)),
+    )
 
--- src/builds.rt:70:38
 cast-stack : tie.Need-cast-stack
 cast-stack c = search needs
 
--- src/builds.rt:70:26
 add-stack : tie.Need-add-stack
 add-stack c = search needs
 
--- src/builds.rt:70:13
 mul-stack : tie.Need-mul-stack
 mul-stack c = search needs
 
--- src/builds.rt:70:13
 slice-write-stack : tie.Need-slice-write-stack
 slice-write-stack c =
     let charge = c .before .before .before .before .before .before .charge in
@@ -142,17 +120,14 @@ slice-write-stack c =
     let start = c .before .before .before .before .before .before .before .before .before .before .before .before .before .before .before in
     let p = went-on (charge .ensures) (if3 .taken) in omega (arith, p .depth, start .pre .1 .0)
 
--- src/builds.rt:45:5
 same-length-2 : tie.Need-same-length-2
 same-length-2 c = search needs
 
--- src/builds.rt:45:5
 same-length-3 : tie.Need-same-length-3
 same-length-3 c =
     let put-fields = c .before .before .put-fields in
     put-fields .ensures .long ∙ simp length-set
 
--- src/builds.rt:45:5
 returns-3 : tie.Need-returns-3
 returns-3 c =
     let start = c .before .before .before .before .before .before .before .before .before .before .before .before .before .before .before in
@@ -162,13 +137,29 @@ returns-3 c =
     let charge = c .before .before .before .before .before .before .charge in
     let if3 = c .before .before .before .before .before .if3 in
     let put-fields = c .before .before .put-fields in
-    λ wi or. record { each = λ ws hs h m n. settle-yes (block-leads (start .pre .0) h wi or _ _ _ (if1 .left) (sym (all-values .ensures ws (h .stack) m (h .sp)) ∙ not-false _ (if2 .left))) _ _ (charge .ensures) (if3 .taken) (λ a b. record { stack = bears-push _ _ _ _ _ (bears-without _ ws _ (h .stack)) (without-length (start .pre .0) h wi or _ (omega (arith, if1 .left))) (bits-ref _ _ (h .hp)) (omega (arith, start .pre .1 .0, a)); heap = bears-block (start .pre .0) h wi or _ _ _ _ _ (omega (arith, if1 .left)) (put-fields .ensures) refl refl refl (omega (arith, start .pre .1 .1 .0, b)); wires = refl; order = refl }) }
+    λ wi or.
+    record {
+      each = λ ws hs h m n.
+          settle-yes
+          (block-leads (start .pre .0) h wi or _ _ _ (if1 .left)
+          (sym (all-values .ensures ws (h .stack) m (h .sp)) ∙ not-false _ (if2 .left))) _ _ (charge .ensures)
+          (if3 .taken)
+          (λ a b.
+          record {
+            stack =
+                bears-push _ _ _ _ _ (bears-without _ ws _ (h .stack)) (without-sp (start .pre .0) h wi or _)
+                (bits-ref _ _ (h .hp)) (omega (arith, start .pre .1 .0, a));
+            heap =
+                bears-block (start .pre .0) h wi or _ _ _ _ _ (omega (arith, if1 .left)) (put-fields .ensures)
+                refl refl refl (omega (arith, start .pre .1 .1 .0, b));
+            wires = refl;
+            order = refl;
+          });
+    }
 
--- src/builds.rt:45:5
 same-length-4 : tie.Need-same-length-4
 same-length-4 c = search needs
 
--- src/builds.rt:45:5
 returns-4 : tie.Need-returns-4
 returns-4 c =
     let start = c .before .before .before .before .before .before .before .before .before .before in
@@ -177,7 +168,14 @@ returns-4 c =
     let if2 = c .before .before .before .if2 in
     let charge = c .before .charge in
     let if3 = c .if3 in
-    λ wi or. record { each = λ ws hs h m n. settle-no (block-leads (start .pre .0) h wi or _ _ _ (if1 .left) (sym (all-values .ensures ws (h .stack) m (h .sp)) ∙ not-false _ (if2 .left))) _ (charge .ensures) (if3 .left) }
+    λ wi or.
+    record {
+      each = λ ws hs h m n.
+          settle-no
+          (block-leads (start .pre .0) h wi or _ _ _ (if1 .left)
+          (sym (all-values .ensures ws (h .stack) m (h .sp)) ∙ not-false _ (if2 .left))) _ (charge .ensures)
+          (if3 .left);
+    }
 
 pub mk-block-spec : {M : Type 1} → statement M
 mk-block-spec =

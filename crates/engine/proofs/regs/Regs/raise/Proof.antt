@@ -1,4 +1,4 @@
-use mathlib.Core.Path.{refl, sym}
+use mathlib.Core.Path.{refl}
 use native.Mathlib.Omega.{arith}
 use lib.ListN.{length-set}
 use Rattle.engine.proofs.Turning.{settle-yes, settle-no, went-on}
@@ -7,40 +7,30 @@ use Rattle.engine.proofs.Yielding.{unhandled-stops, raise-leads, bears-
 use borrow.Author.Needs.{needs}
 use Rattle.engine.proofs.regs.Regs.raise.Statement.{statement}
 use Rattle.engine.proofs.regs.Regs.raise.Tie as tie
-use Rattle.engine.proofs.regs.Regs.raise.Reads as reads
-use Rattle.engine.proofs.regs.Regs.raise.Lts as lts
-use Rattle.engine.proofs.regs.Regs.charge.Reads as charge-reads
-use Rattle.engine.proofs.regs.Regs.halt.Reads as halt-reads
 
--- src/prims.rt:314:13
 halt-requires : tie.Need-halt-requires
 halt-requires c κs = search needs
 
--- src/prims.rt:314:13
 returns : tie.Need-returns
 returns c =
     let start = c .before .before .before .before in
     let if1 = c .before .if1 in
     let halt = c .halt in
-    λ P t k wi or d z. record { each = λ ws hs h m n. unhandled-stops (start .pre .0) h wi or P t k _ _ _ _ d (if1 .taken) (halt .ensures) }
+    λ P t k wi or d z.
+    record { each = λ ws hs h m n. unhandled-stops h wi or _ P t k _ _ _ _ d (if1 .taken) (halt .ensures) }
 
--- src/prims.rt:320:19
 add-next : tie.Need-add-next
 add-next c = search needs
 
--- src/prims.rt:326:13
 charge-requires : tie.Need-charge-requires
 charge-requires c κs = search needs
 
--- src/prims.rt:328:24
 add-heap : tie.Need-add-heap
 add-heap c = search needs
 
--- src/prims.rt:328:13
 mul-heap : tie.Need-mul-heap
 mul-heap c = search needs
 
--- src/prims.rt:328:13
 slice-write-heap : tie.Need-slice-write-heap
 slice-write-heap c =
     let charge = c .before .charge in
@@ -48,15 +38,12 @@ slice-write-heap c =
     let start = c .before .before .before .before .before in
     let p = went-on (charge .ensures) (if2 .taken) in omega (arith, p .heap, start .pre .1 .1 .0)
 
--- src/prims.rt:329:18
 add-heap-2 : tie.Need-add-heap-2
 add-heap-2 c = search needs
 
--- src/prims.rt:329:13
 mul-heap-2 : tie.Need-mul-heap-2
 mul-heap-2 c = search needs
 
--- src/prims.rt:329:13
 slice-write-heap-2 : tie.Need-slice-write-heap-2
 slice-write-heap-2 c =
     let charge = c .before .charge in
@@ -64,15 +51,12 @@ slice-write-heap-2 c =
     let start = c .before .before .before .before .before in
     let p = went-on (charge .ensures) (if2 .taken) in simp length-set (omega (arith, p .heap, start .pre .1 .1 .0))
 
--- src/prims.rt:330:18
 add-heap-3 : tie.Need-add-heap-3
 add-heap-3 c = search needs
 
--- src/prims.rt:330:13
 mul-heap-3 : tie.Need-mul-heap-3
 mul-heap-3 c = search needs
 
--- src/prims.rt:330:13
 slice-write-heap-3 : tie.Need-slice-write-heap-3
 slice-write-heap-3 c =
     let charge = c .before .charge in
@@ -80,15 +64,12 @@ slice-write-heap-3 c =
     let start = c .before .before .before .before .before in
     let p = went-on (charge .ensures) (if2 .taken) in simp length-set (omega (arith, p .heap, start .pre .1 .1 .0))
 
--- src/prims.rt:331:36
 cast-stack : tie.Need-cast-stack
 cast-stack c = search needs
 
--- src/prims.rt:331:24
 add-stack : tie.Need-add-stack
 add-stack c = search needs
 
--- src/prims.rt:331:13
 slice-write-stack : tie.Need-slice-write-stack
 slice-write-stack c =
     let charge = c .before .charge in
@@ -96,7 +77,6 @@ slice-write-stack c =
     let start = c .before .before .before .before .before in
     let p = went-on (charge .ensures) (if2 .taken) in omega (arith, p .depth, start .pre .1 .0)
 
--- src/prims.rt:332:13
 slice-write-stack-2 : tie.Need-slice-write-stack-2
 slice-write-stack-2 c =
     let charge = c .before .charge in
@@ -104,7 +84,6 @@ slice-write-stack-2 c =
     let start = c .before .before .before .before .before in
     let p = went-on (charge .ensures) (if2 .taken) in simp length-set (omega (arith, p .depth, start .pre .1 .0))
 
--- src/prims.rt:333:13
 slice-write-stack-3 : tie.Need-slice-write-stack-3
 slice-write-stack-3 c =
     let charge = c .before .charge in
@@ -112,7 +91,6 @@ slice-write-stack-3 c =
     let start = c .before .before .before .before .before in
     let p = went-on (charge .ensures) (if2 .taken) in simp length-set (omega (arith, p .depth, start .pre .1 .0))
 
--- src/prims.rt:334:13
 slice-write-stack-4 : tie.Need-slice-write-stack-4
 slice-write-stack-4 c =
     let charge = c .before .charge in
@@ -120,7 +98,6 @@ slice-write-stack-4 c =
     let start = c .before .before .before .before .before in
     let p = went-on (charge .ensures) (if2 .taken) in simp length-set (omega (arith, p .depth, start .pre .1 .0))
 
--- src/prims.rt:335:13
 slice-write-stack-5 : tie.Need-slice-write-stack-5
 slice-write-stack-5 c =
     let charge = c .before .charge in
@@ -128,30 +105,45 @@ slice-write-stack-5 c =
     let start = c .before .before .before .before .before in
     let p = went-on (charge .ensures) (if2 .taken) in simp length-set (omega (arith, p .depth, start .pre .1 .0))
 
--- src/prims.rt:306:5
 same-length : tie.Need-same-length
 same-length c = search needs
 
--- src/prims.rt:306:5
 same-length-2 : tie.Need-same-length-2
 same-length-2 c = search needs
 
--- src/prims.rt:306:5
 returns-2 : tie.Need-returns-2
 returns-2 c =
     let if1 = c .before .before .if1 in
     let charge = c .before .charge in
     let if2 = c .if2 in
     let start = c .before .before .before .before .before in
-    λ P t k wi or d z. record { each = λ ws hs h m n. settle-yes (raise-leads h wi or P _ t k _ _ _ _ d (if1 .left) z) _ _ (charge .ensures) (if2 .taken) (λ a b. record { stack = bears-thrown (start .args .stack .now) _ _ (bits-ref _ _ (h .hp)) (omega (arith, start .pre .1 .0, a)); heap = bears-exn (start .args .heap .now) hs _ _ _ _ (h .heap) (h .hp) refl (omega (arith, start .pre .1 .1 .0, b)); wires = refl; order = refl }) }
+    λ P t k wi or d z.
+    record {
+      each = λ ws hs h m n.
+          settle-yes (raise-leads h wi or P _ t k _ _ _ _ d (if1 .left) z) _ _ (charge .ensures) (if2 .taken)
+          (λ a b.
+          record {
+            stack =
+                bears-thrown (start .args .stack .now) _ _ (bits-ref _ _ (h .hp))
+                (omega (arith, start .pre .1 .0, a));
+            heap =
+                bears-exn (start .args .heap .now) hs _ _ _ _ (h .heap) (h .hp) refl
+                (omega (arith, start .pre .1 .1 .0, b));
+            wires = refl;
+            order = refl;
+          });
+    }
 
--- src/prims.rt:306:5
 returns-3 : tie.Need-returns-3
 returns-3 c =
     let if1 = c .before .before .if1 in
     let charge = c .before .charge in
     let if2 = c .if2 in
-    λ P t k wi or d z. record { each = λ ws hs h m n. settle-no (raise-leads h wi or P _ t k _ _ _ _ d (if1 .left) z) _ (charge .ensures) (if2 .left) }
+    λ P t k wi or d z.
+    record {
+      each = λ ws hs h m n.
+          settle-no (raise-leads h wi or P _ t k _ _ _ _ d (if1 .left) z) _ (charge .ensures) (if2 .left);
+    }
 
 pub raise-spec : {M : Type 1} → statement M
 raise-spec =

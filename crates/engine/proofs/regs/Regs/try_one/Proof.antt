@@ -1,4 +1,4 @@
-use mathlib.Core.Path.{refl, sym, _∙_, ap}
+use mathlib.Core.Path.{refl, _∙_, ap}
 use native.Mathlib.Omega.{arith}
 use Prim.Native.Nat.{_-_}
 use Rattle.engine.specs.Outcomes.{settled}
@@ -8,83 +8,70 @@ use Rattle.engine.proofs.Yielding.{one-few, one-no-ref, one-is, fair-fa
 use borrow.Author.Needs.{needs}
 use Rattle.engine.proofs.regs.Regs.try_one.Statement.{statement}
 use Rattle.engine.proofs.regs.Regs.try_one.Tie as tie
-use Rattle.engine.proofs.regs.Regs.try_one.Reads as reads
-use Rattle.engine.proofs.regs.Regs.try_one.Lts as lts
-use Rattle.engine.proofs.prims.prim1.Reads as prim1-reads
-use Rattle.engine.proofs.prims.settle.Reads as settle-reads
 
--- src/prims.rt:210:13
 returns : tie.Need-returns
 returns c =
     let start = c .before .before .before .before in
     let if1 = c .if1 in
-    (record { each = λ P ws hs wi or h m n. one-few (start .pre .0) h wi or P _ (if1 .taken) }, fair-fault _ 1)
+    (record { each = λ P ws hs wi or h m n. one-few h wi or P _ (if1 .taken) }, fair-fault _ 1)
 
--- src/prims.rt:212:23
 sub-w : tie.Need-sub-w
 sub-w c = search needs
 
--- src/prims.rt:212:17
 mul-w : tie.Need-mul-w
 mul-w c = search needs
 
--- src/prims.rt:212:17
 shared-slice-read-w : tie.Need-shared-slice-read-w
 shared-slice-read-w c = search needs
 
--- src/prims.rt:214:13
 returns-2 : tie.Need-returns-2
 returns-2 c =
     let start = c .before .before .before .before .before .before in
     let if1 = c .before .before .if1 in
-    let if2 = c .if2 in
-    (record { each = λ P ws hs wi or h m n. one-no-ref (start .pre .0) h wi or P _ _ (reads-below h 0 _ (omega (arith, if1 .left)) refl) (small-below 0 m) (if1 .left) (if2 .taken) }, fair-fault _ 2)
+    let if2 = c .if2 in (
+      record {
+        each = λ P ws hs wi or h m n.
+            one-no-ref h wi or P _ _ (reads-below h 0 _ (omega (arith, if1 .left)) refl) (small-below 0 m) (if1 .left)
+            (if2 .taken);
+      },
+      fair-fault _ 2,
+    )
 
--- src/prims.rt:216:17
 cast-p : tie.Need-cast-p
 cast-p c = search needs
 
--- src/prims.rt:217:25
 mul-prim1 : tie.Need-mul-prim1
 mul-prim1 c = search needs
 
--- src/prims.rt:217:25
 shared-slice-read-prim1 : tie.Need-shared-slice-read-prim1
 shared-slice-read-prim1 c =
     let start = c .before .before .before .before .before .before .before in
     let if1 = c .before .before .before .if1 in
     let if2 = c .before .if2 in
-    let p = start .pre .1 .1 .1 .each _ (omega (arith, if1 .left)) (if2 .left) in omega (arith, start .pre .1 .1 .0, start .pre .0 .hp)
+    let p = start .pre .1 .each _ (omega (arith, if1 .left)) (if2 .left) in omega (arith, start .pre .0 .2)
 
--- src/prims.rt:217:39
 add-prim1 : tie.Need-add-prim1
 add-prim1 c = search needs
 
--- src/prims.rt:217:34
 mul-prim1-2 : tie.Need-mul-prim1-2
 mul-prim1-2 c = search needs
 
--- src/prims.rt:217:34
 shared-slice-read-prim1-2 : tie.Need-shared-slice-read-prim1-2
 shared-slice-read-prim1-2 c =
     let start = c .before .before .before .before .before .before .before .before in
     let if1 = c .before .before .before .before .if1 in
     let if2 = c .before .before .if2 in
-    let p = start .pre .1 .1 .1 .each _ (omega (arith, if1 .left)) (if2 .left) in omega (arith, start .pre .1 .1 .0, start .pre .0 .hp)
+    let p = start .pre .1 .each _ (omega (arith, if1 .left)) (if2 .left) in omega (arith, start .pre .0 .2)
 
--- src/prims.rt:217:16
 prim1-requires : tie.Need-prim1-requires
 prim1-requires c κs = search needs
 
--- src/prims.rt:217:48
 sub-settle : tie.Need-sub-settle
 sub-settle c = search needs
 
--- src/prims.rt:217:9
 settle-requires : tie.Need-settle-requires
 settle-requires c κs = search needs
 
--- src/prims.rt:200:5
 returns-3 : tie.Need-returns-3
 returns-3 c =
     let start = c .before .before .before .before .before .before .before .before .before .before in
@@ -92,7 +79,15 @@ returns-3 c =
     let if2 = c .before .before .before .before .if2 in
     let settle = c .settle in
     let prim1 = c .before .prim1 in
-    let p = start .pre .1 .1 .1 .each _ (omega (arith, if1 .left)) (if2 .left) in let o = settle .ensures ∙ ap (settled (start .args .self .sp - 1)) (prim1 .ensures) in (record { each = λ P ws hs wi or h m n. one-is (start .pre .0) h wi or P _ _ (reads-below h 0 _ (omega (arith, if1 .left)) refl) (small-below 0 m) _ _ (if1 .left) (if2 .left) p refl refl _ o }, fair-tried _ _ (tame-one _) _ _ _ _ o (omega (arith, if1 .left)) (omega (arith, if1 .left)))
+    let p = start .pre .1 .each _ (omega (arith, if1 .left)) (if2 .left) in
+    let o = settle .ensures ∙ ap (settled (start .args .self .sp - 1)) (prim1 .ensures) in (
+      record {
+        each = λ P ws hs wi or h m n.
+            one-is h wi or P _ _ (reads-below h 0 _ (omega (arith, if1 .left)) refl) (small-below 0 m) _ _ (if1 .left)
+            (if2 .left) p refl refl _ o;
+      },
+      fair-tried _ _ (tame-one _) _ _ _ _ o (omega (arith, if1 .left)) (omega (arith, if1 .left)),
+    )
 
 pub try-one-spec : {M : Type 1} → statement M
 try-one-spec =

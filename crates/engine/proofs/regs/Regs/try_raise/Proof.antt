@@ -1,4 +1,4 @@
-use mathlib.Core.Path.{refl, sym, _∙_, ap}
+use mathlib.Core.Path.{refl, sym, _∙_}
 use native.Mathlib.Omega.{arith}
 use borrow.Author.Tests.{not-true, not-false}
 use Rattle.engine.proofs.Turning.{reads-below}
@@ -7,50 +7,56 @@ use Rattle.engine.proofs.Yielding.{raise-few, raise-wrong, raise-is, fa
 use borrow.Author.Needs.{needs}
 use Rattle.engine.proofs.regs.Regs.try_raise.Statement.{statement}
 use Rattle.engine.proofs.regs.Regs.try_raise.Tie as tie
-use Rattle.engine.proofs.regs.Regs.try_raise.Reads as reads
-use Rattle.engine.proofs.regs.Regs.try_raise.Lts as lts
-use Rattle.engine.proofs.words.is_value.Reads as is-value-reads
 
--- src/prims.rt:256:13
 returns : tie.Need-returns
 returns c =
     let start = c .before .before .before in
     let if1 = c .if1 in
-    (λ he. record { each = λ P ws hs wi or h m n. raise-few (start .pre .0) h wi or P _ (if1 .taken) }, fair-fault _ 1)
+    (λ he. record { each = λ P ws hs wi or h m n. raise-few h wi or P _ (if1 .taken) }, fair-fault _ 1)
 
--- src/prims.rt:258:23
 sub-w : tie.Need-sub-w
 sub-w c = search needs
 
--- src/prims.rt:258:17
 mul-w : tie.Need-mul-w
 mul-w c = search needs
 
--- src/prims.rt:258:17
 shared-slice-read-w : tie.Need-shared-slice-read-w
 shared-slice-read-w c = search needs
 
--- src/prims.rt:259:13
 is-value-requires : tie.Need-is-value-requires
 is-value-requires c κs = search needs
 
--- src/prims.rt:260:13
 returns-2 : tie.Need-returns-2
 returns-2 c =
     let start = c .before .before .before .before .before .before in
     let if1 = c .before .before .before .if1 in
     let is-value = c .before .is-value in
-    let if2 = c .if2 in
-    (λ he. record { each = λ P ws hs wi or h m n. raise-wrong (start .pre .0) h wi or P _ (if1 .left) (sym (is-value .ensures _ (reads-below h 0 _ (omega (arith, if1 .left)) refl) (small-below 0 m)) ∙ not-true _ (if2 .taken)) }, fair-fault _ 2)
+    let if2 = c .if2 in (
+      λ he.
+          record {
+            each = λ P ws hs wi or h m n.
+                raise-wrong h wi or P _ (if1 .left)
+                (sym (is-value .ensures _ (reads-below h 0 _ (omega (arith, if1 .left)) refl) (small-below 0 m))
+                ∙ not-true _ (if2 .taken));
+          },
+      fair-fault _ 2,
+    )
 
--- src/prims.rt:247:5
 returns-3 : tie.Need-returns-3
 returns-3 c =
     let start = c .before .before .before .before .before .before in
     let if1 = c .before .before .before .if1 in
     let is-value = c .before .is-value in
-    let if2 = c .if2 in
-    (λ he. record { each = λ P ws hs wi or h m n. raise-is (start .pre .0) h wi or P _ _ (if1 .left) (sym (is-value .ensures _ (reads-below h 0 _ (omega (arith, if1 .left)) refl) (small-below 0 m)) ∙ not-false _ (if2 .left)) (reads-below h 0 _ (omega (arith, if1 .left)) refl) (small-below 0 m) }, fair-raises _ _ _ (start .pre .1 .1))
+    let if2 = c .if2 in (
+      λ he.
+          record {
+            each = λ P ws hs wi or h m n.
+                raise-is h wi or P _ _ (if1 .left)
+                (sym (is-value .ensures _ (reads-below h 0 _ (omega (arith, if1 .left)) refl) (small-below 0 m))
+                ∙ not-false _ (if2 .left)) (reads-below h 0 _ (omega (arith, if1 .left)) refl) (small-below 0 m);
+          },
+      fair-raises _ _ _ (start .pre .1),
+    )
 
 pub try-raise-spec : {M : Type 1} → statement M
 try-raise-spec =

@@ -1,4 +1,4 @@
-use mathlib.Core.Path.{refl, sym, _∙_, ap}
+use mathlib.Core.Path.{refl, _∙_, ap}
 use native.Mathlib.Omega.{arith}
 use Prim.Native.Nat.{_-_}
 use Rattle.engine.specs.Outcomes.{settled}
@@ -8,139 +8,123 @@ use Rattle.engine.proofs.Yielding.{two-few, two-no-first, two-no-second
 use borrow.Author.Needs.{needs}
 use Rattle.engine.proofs.regs.Regs.try_two.Statement.{statement}
 use Rattle.engine.proofs.regs.Regs.try_two.Tie as tie
-use Rattle.engine.proofs.regs.Regs.try_two.Reads as reads
-use Rattle.engine.proofs.regs.Regs.try_two.Lts as lts
-use Rattle.engine.proofs.prims.prim2.Reads as prim2-reads
-use Rattle.engine.proofs.prims.settle.Reads as settle-reads
 
--- src/prims.rt:230:12
 sub-if1 : tie.Need-sub-if1
 sub-if1 c = search needs
 
--- src/prims.rt:231:13
 returns : tie.Need-returns
 returns c =
     let start = c .before .before .before .before in
     let if1 = c .if1 in
-    (record { each = λ P ws hs wi or h m n. two-few (start .pre .0) h wi or P _ (if1 .taken) }, fair-fault _ 1)
+    (record { each = λ P ws hs wi or h m n. two-few h wi or P _ (if1 .taken) }, fair-fault _ 1)
 
--- src/prims.rt:233:23
 sub-w : tie.Need-sub-w
 sub-w c = search needs
 
--- src/prims.rt:233:17
 mul-w : tie.Need-mul-w
 mul-w c = search needs
 
--- src/prims.rt:233:17
 shared-slice-read-w : tie.Need-shared-slice-read-w
 shared-slice-read-w c = search needs
 
--- src/prims.rt:234:23
 sub-v : tie.Need-sub-v
 sub-v c = search needs
 
--- src/prims.rt:234:17
 mul-v : tie.Need-mul-v
 mul-v c = search needs
 
--- src/prims.rt:234:17
 shared-slice-read-v : tie.Need-shared-slice-read-v
 shared-slice-read-v c = search needs
 
--- src/prims.rt:236:13
 returns-2 : tie.Need-returns-2
 returns-2 c =
     let start = c .before .before .before .before .before .before .before in
     let if1 = c .before .before .before .if1 in
-    let if2 = c .if2 in
-    (record { each = λ P ws hs wi or h m n. two-no-first (start .pre .0) h wi or P _ _ _ (reads-below h 0 _ (omega (arith, if1 .left)) refl) (reads-below h 1 _ (omega (arith, if1 .left)) refl) (small-below 0 m) (small-below 1 m) (if1 .left) (if2 .taken) }, fair-fault _ 2)
+    let if2 = c .if2 in (
+      record {
+        each = λ P ws hs wi or h m n.
+            two-no-first h wi or P _ _ _ (reads-below h 0 _ (omega (arith, if1 .left)) refl)
+            (reads-below h 1 _ (omega (arith, if1 .left)) refl) (small-below 0 m) (small-below 1 m) (if1 .left)
+            (if2 .taken);
+      },
+      fair-fault _ 2,
+    )
 
--- src/prims.rt:239:13
 returns-3 : tie.Need-returns-3
 returns-3 c =
     let start = c .before .before .before .before .before .before .before .before in
     let if1 = c .before .before .before .before .if1 in
-    let if3 = c .if3 in
-    (record { each = λ P ws hs wi or h m n. two-no-second (start .pre .0) h wi or P _ _ _ (reads-below h 0 _ (omega (arith, if1 .left)) refl) (reads-below h 1 _ (omega (arith, if1 .left)) refl) (small-below 0 m) (small-below 1 m) (if1 .left) (if3 .taken) }, fair-fault _ 2)
+    let if3 = c .if3 in (
+      record {
+        each = λ P ws hs wi or h m n.
+            two-no-second h wi or P _ _ _ (reads-below h 0 _ (omega (arith, if1 .left)) refl)
+            (reads-below h 1 _ (omega (arith, if1 .left)) refl) (small-below 0 m) (small-below 1 m) (if1 .left)
+            (if3 .taken);
+      },
+      fair-fault _ 2,
+    )
 
--- src/prims.rt:241:17
 cast-p : tie.Need-cast-p
 cast-p c = search needs
 
--- src/prims.rt:242:17
 cast-q : tie.Need-cast-q
 cast-q c = search needs
 
--- src/prims.rt:243:25
 mul-prim2 : tie.Need-mul-prim2
 mul-prim2 c = search needs
 
--- src/prims.rt:243:25
 shared-slice-read-prim2 : tie.Need-shared-slice-read-prim2
 shared-slice-read-prim2 c =
     let start = c .before .before .before .before .before .before .before .before .before in
     let if1 = c .before .before .before .before .before .if1 in
     let if2 = c .before .before .if2 in
-    let p = start .pre .1 .1 .1 .each _ (omega (arith, if1 .left)) (if2 .left) in omega (arith, start .pre .1 .1 .0, start .pre .0 .hp)
+    let p = start .pre .1 .each _ (omega (arith, if1 .left)) (if2 .left) in omega (arith, start .pre .0 .2)
 
--- src/prims.rt:243:39
 add-prim2 : tie.Need-add-prim2
 add-prim2 c = search needs
 
--- src/prims.rt:243:34
 mul-prim2-2 : tie.Need-mul-prim2-2
 mul-prim2-2 c = search needs
 
--- src/prims.rt:243:34
 shared-slice-read-prim2-2 : tie.Need-shared-slice-read-prim2-2
 shared-slice-read-prim2-2 c =
     let start = c .before .before .before .before .before .before .before .before .before .before in
     let if1 = c .before .before .before .before .before .before .if1 in
     let if2 = c .before .before .before .if2 in
-    let p = start .pre .1 .1 .1 .each _ (omega (arith, if1 .left)) (if2 .left) in omega (arith, start .pre .1 .1 .0, start .pre .0 .hp)
+    let p = start .pre .1 .each _ (omega (arith, if1 .left)) (if2 .left) in omega (arith, start .pre .0 .2)
 
--- src/prims.rt:243:47
 mul-prim2-3 : tie.Need-mul-prim2-3
 mul-prim2-3 c = search needs
 
--- src/prims.rt:243:47
 shared-slice-read-prim2-3 : tie.Need-shared-slice-read-prim2-3
 shared-slice-read-prim2-3 c =
     let start = c .before .before .before .before .before .before .before .before .before .before .before in
     let if1 = c .before .before .before .before .before .before .before .if1 in
     let if3 = c .before .before .before .if3 in
-    let p = start .pre .1 .1 .1 .each _ (omega (arith, if1 .left)) (if3 .left) in omega (arith, start .pre .1 .1 .0, start .pre .0 .hp)
+    let p = start .pre .1 .each _ (omega (arith, if1 .left)) (if3 .left) in omega (arith, start .pre .0 .2)
 
--- src/prims.rt:243:61
 add-prim2-2 : tie.Need-add-prim2-2
 add-prim2-2 c = search needs
 
--- src/prims.rt:243:56
 mul-prim2-4 : tie.Need-mul-prim2-4
 mul-prim2-4 c = search needs
 
--- src/prims.rt:243:56
 shared-slice-read-prim2-4 : tie.Need-shared-slice-read-prim2-4
 shared-slice-read-prim2-4 c =
     let start = c .before .before .before .before .before .before .before .before .before .before .before .before in
     let if1 = c .before .before .before .before .before .before .before .before .if1 in
     let if3 = c .before .before .before .before .if3 in
-    let p = start .pre .1 .1 .1 .each _ (omega (arith, if1 .left)) (if3 .left) in omega (arith, start .pre .1 .1 .0, start .pre .0 .hp)
+    let p = start .pre .1 .each _ (omega (arith, if1 .left)) (if3 .left) in omega (arith, start .pre .0 .2)
 
--- src/prims.rt:243:16
 prim2-requires : tie.Need-prim2-requires
 prim2-requires c κs = search needs
 
--- src/prims.rt:243:70
 sub-settle : tie.Need-sub-settle
 sub-settle c = search needs
 
--- src/prims.rt:243:9
 settle-requires : tie.Need-settle-requires
 settle-requires c κs = search needs
 
--- src/prims.rt:221:5
 returns-4 : tie.Need-returns-4
 returns-4 c =
     let start = c .before .before .before .before .before .before .before .before .before .before .before .before .before .before in
@@ -149,7 +133,17 @@ returns-4 c =
     let if3 = c .before .before .before .before .before .before .if3 in
     let settle = c .settle in
     let prim2 = c .before .prim2 in
-    let p = start .pre .1 .1 .1 .each _ (omega (arith, if1 .left)) (if2 .left) in let q = start .pre .1 .1 .1 .each _ (omega (arith, if1 .left)) (if3 .left) in let o = settle .ensures ∙ ap (settled (start .args .self .sp - 2)) (prim2 .ensures) in (record { each = λ P ws hs wi or h m n. two-is (start .pre .0) h wi or P _ _ _ (reads-below h 0 _ (omega (arith, if1 .left)) refl) (reads-below h 1 _ (omega (arith, if1 .left)) refl) (small-below 0 m) (small-below 1 m) (if1 .left) _ _ _ _ (if2 .left) (if3 .left) p q refl refl refl refl _ o }, fair-tried _ _ (tame-two _) _ _ _ _ o (omega (arith, if1 .left)) (omega (arith, if1 .left)))
+    let p = start .pre .1 .each _ (omega (arith, if1 .left)) (if2 .left) in
+    let q = start .pre .1 .each _ (omega (arith, if1 .left)) (if3 .left) in
+    let o = settle .ensures ∙ ap (settled (start .args .self .sp - 2)) (prim2 .ensures) in (
+      record {
+        each = λ P ws hs wi or h m n.
+            two-is h wi or P _ _ _ (reads-below h 0 _ (omega (arith, if1 .left)) refl)
+            (reads-below h 1 _ (omega (arith, if1 .left)) refl) (small-below 0 m) (small-below 1 m) (if1 .left) _ _ _ _
+            (if2 .left) (if3 .left) p q refl refl refl refl _ o;
+      },
+      fair-tried _ _ (tame-two _) _ _ _ _ o (omega (arith, if1 .left)) (omega (arith, if1 .left)),
+    )
 
 pub try-two-spec : {M : Type 1} → statement M
 try-two-spec =
