@@ -3,6 +3,7 @@ pub mod Fits
 pub mod Running
 pub mod Reports
 pub mod Endings
+pub mod Ready
 pub mod Frames
 pub mod Tables
 pub mod Attempts

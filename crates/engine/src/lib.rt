@@ -8,6 +8,7 @@ mod placing;
 mod prims;
 mod regs;
 mod spreading;
+mod stepping;
 mod whole;
 mod wiring;
 mod words;

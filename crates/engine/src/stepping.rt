@@ -1,0 +1,90 @@
+// One step of the machine: the instruction at pc.
+use super::image::a_at;
+use super::image::b_at;
+use super::image::c_at;
+use super::image::entry_of;
+use super::image::opcode_at;
+use super::regs::Limits;
+use super::regs::Regs;
+use super::regs::Turn;
+use arith::canonical;
+ghost use mathlib.Core.Path.{_≡_};
+ghost use Rattle.hume.specs.Image.{program};
+ghost use Rattle.hume.specs.Machine.{machine};
+ghost use Rattle.engine.specs.Turns.{Meets, buffers};
+ghost use Rattle.engine.specs.Ready.{Ready, payload};
+
+// What is found once of an image: where its instructions begin, how many wires it has, and its handler with its entry.
+pub struct Fixed {
+    pub code: usize,
+    pub inputs: usize,
+    pub outputs: usize,
+    pub handler: usize,
+    pub entry: usize,
+}
+
+// "any NaN stored is 7FC00000"
+fn stored(op: usize, c: u32) -> u32
+    ensures { λ r. ⌜ r ≡ payload op c ⌝ }
+{
+    if op == 3 { canonical(c) } else { c }
+}
+
+impl Regs {
+    // Every function that it calls has no other caller, so that the whole machine is one loop. The headers of MkBool, MkInt and
+    // MkFloat are their opcodes, those of MkTuple and MkCon one less; a field that an instruction doesn't name is 0.
+    pub(crate) fn step(
+        self,
+        lim: Limits,
+        fixed: Fixed,
+        image: &[u8],
+        at: &[usize],
+        orders: &[usize],
+        card: &[u32],
+        stack: &mut [u32],
+        heap: &mut [u32],
+        wires: &mut [u32],
+        order: &mut [u32],
+    ) -> Turn
+        requires { ⌜ Ready (now image) (now card) (now at) (now orders) lim fixed self (buffers (now stack) (now heap) (now wires) (now order)) ⌝ }
+        ensures { λ r. ⌜ Meets lim self (buffers (now (stack .entry)) (now (heap .entry)) (now (wires .entry)) (now (order .entry))) (machine (program (now (image .entry))) (now (card .entry)) .act) r (buffers (now (stack .exit)) (now (heap .exit)) (now (wires .exit)) (now (order .exit))) ⌝ }
+    {
+        let pc = self.pc;
+        let code = fixed.code;
+        let op = opcode_at(image, code, pc);
+        let a = a_at(image, code, pc);
+        let b = b_at(image, code, pc);
+        let c = c_at(image, code, pc);
+        let cost = card[op - 1] as usize;
+        match op {
+            1 | 2 | 3 => self.mk_atom(lim, cost, (op * 65536) as u32, stored(op, c), stack, heap),
+            4 => self.mk_none(lim, cost, stack),
+            5 | 6 => self.mk_block(lim, cost, ((op - 1) * 65536 + b) as u32, a, stack, heap),
+            7 => self.push_nulls(lim, cost, a, stack),
+            8 => self.pop(lim, cost, a),
+            9 => self.slide(lim, cost, a, stack),
+            10 => self.copy(lim, cost, a, stack),
+            11 => self.copy_arg(lim, cost, a, stack),
+            12 => self.create_frame(lim, cost, a, stack),
+            13 => self.push_var(lim, cost, a, stack),
+            14 => self.make_var(lim, cost, a, stack),
+            15 => self.goto(lim, cost, b),
+            16 => self.if_true(lim, cost, b, stack, heap),
+            17 => self.call(lim, cost, a, entry_of(image, at, a), stack),
+            18 => self.give_back(lim, cost, stack),
+            19 | 20 | 21 => self.apply(lim, cost, op, a, b as u32, fixed.handler, fixed.entry, stack, heap),
+            22 => self.start_matches(lim, cost, image, at, orders, order),
+            23 => self.match_rule(lim, cost, image, at),
+            24 => self.matched_rule(lim, cost),
+            25 => self.match_none(lim, cost),
+            26..=32 => self.matching(lim, cost, op, a, b as u32, c, fixed.inputs, image, at, orders, order, stack, heap, wires),
+            33 => self.unpack(lim, cost, stack, heap),
+            34 => self.reorder(lim, cost, image, at, orders, order),
+            35 => self.copy_input(lim, cost, a, stack, heap, wires),
+            36 | 37 => self.consume(lim, cost, a, wires),
+            38 => self.check_outputs(lim, cost, fixed.inputs, fixed.outputs, stack, wires),
+            39 => self.write(lim, cost, a, fixed.inputs, stack, heap, wires),
+            _ => self.schedule(lim, cost),
+        }
+    }
+}
