@@ -21,3 +21,4 @@ pub mod Writing
 pub mod Building
 pub mod Yielding
 pub mod Granted
+pub mod Dispatching
