@@ -22,3 +22,5 @@ pub mod Building
 pub mod Yielding
 pub mod Granted
 pub mod Dispatching
+pub mod Looping
+pub mod Opening

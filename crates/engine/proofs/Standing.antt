@@ -17,7 +17,12 @@ use Rattle.reach.specs.Sound.{Plain, isNull, isRef, isNone, isRet, isRules, isS
 use Rattle.reach.specs.Demands.{Allowed, Typed}
 use Rattle.reach.proofs.Frames.{lp-le, word-free}
 use Rattle.engine.specs.Turns.{Bears, Holds, Buffers, Smalls}
-use Rattle.engine.specs.Fits.{Fit, Refs}
+use Rattle.engine.specs.Fits.{Fit, Refs, Imaged, Located}
+use Rattle.engine.specs.Ready.{Fixing, Ready}
+use Rattle.engine.specs.declared.stepping.Fixed.{Fixed}
+use Rattle.engine.proofs.Backing.{frames-framed}
+use Rattle.engine.proofs.Granted.{frames-refs, frames-blocks}
+use Rattle.engine.proofs.Writing.{top-sound}
 use Rattle.engine.specs.Running.{Bounds, Going}
 use Rattle.engine.specs.declared.regs.Limits.{Limits}
 use Rattle.engine.specs.declared.regs.Regs.{Regs}
@@ -104,4 +109,30 @@ module _ (g : Given) (a : Allowed g) {lim : Limits} (k : Bounds g lim) {r : Regs
         each = λ i h e.
             let o : getD (b .stack) i 0 % 2 ^ 28 + 2 ≤ length (w .hs) = whole-inside (whole-at i h e) in
             omega (arith, w .holds .hp);
+      }
+
+  -- a Tuple, Constr or Exn that the stack refers to has its fields below hp, the top value is held by the heap, and a frame has its link
+  pub ready : (at orders : List ℕ) (f : Fixed) → Typed g → Located (g .image) at orders → Fixing (g .image) f
+      → length (b .stack) ≡ length (g .stack) → length (b .heap) ≡ length (g .heap)
+      → Ready (g .image) (g .card) at orders lim f r b
+  ready at orders f y l x ls lh =
+      let s = w .sound in
+      let small : Smalls (w .ws) = record { each = w .ranged .stack } in
+      let smalls : Smalls (w .hs) = record { each = w .ranged .heap } in
+      record {
+        fit = fits;
+        stack-room = omega (arith, k .stack, a .stack-room, ls);
+        heap-room = omega (arith, k .heap, a .heap-room, lh);
+        imaged = record { accepted = a .image; long = a .long; bytes = y .image };
+        located = l;
+        fixing = x;
+        prices = a .card;
+        pc = s .pc;
+        rs = s .rs;
+        refs = refs;
+        framed = frames-framed fits (w .holds) small (s .frames);
+        blocks = frames-blocks (w .holds) small (s .frames);
+        top = top-sound s fits (w .holds) small smalls;
+        order = s .order;
+        wires = s .wires;
       }

@@ -25,3 +25,22 @@ ending e s time =
       depth = s .sp;
       heap = s .hp;
     }
+
+-- "Registers start at 0"
+abbrev pub beginning : ℕ → ℕ → Regs
+beginning pc time =
+    record {
+      pc = pc;
+      sp = 0;
+      hp = 0;
+      fp = 0;
+      lp = 0;
+      slp = 0;
+      rp = 0;
+      mp = 0;
+      inp = 0;
+      rs = 0;
+      steps = 0;
+      left = time;
+      peak = 0;
+    }

@@ -4,6 +4,7 @@ pub mod Running
 pub mod Reports
 pub mod Endings
 pub mod Ready
+pub mod Underway
 pub mod Frames
 pub mod Tables
 pub mod Attempts

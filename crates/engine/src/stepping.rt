@@ -9,10 +9,14 @@ use super::regs::Regs;
 use super::regs::Turn;
 use arith::canonical;
 ghost use mathlib.Core.Path.{_≡_};
+ghost use Prim.Native.Nat.{_≤_};
+ghost use lib.ListN.{length};
 ghost use Rattle.hume.specs.Image.{program};
 ghost use Rattle.hume.specs.Machine.{machine};
 ghost use Rattle.engine.specs.Turns.{Meets, buffers};
-ghost use Rattle.engine.specs.Ready.{Ready, payload};
+ghost use Rattle.engine.specs.Fits.{Imaged};
+ghost use Rattle.engine.specs.Tables.{Placed};
+ghost use Rattle.engine.specs.Ready.{Ready, Fixing, payload};
 
 // What is found once of an image: where its instructions begin, how many wires it has, and its handler with its entry.
 pub struct Fixed {
@@ -21,6 +25,41 @@ pub struct Fixed {
     pub outputs: usize,
     pub handler: usize,
     pub entry: usize,
+}
+
+// The entry of the handler, where there is one.
+fn handler_entry(image: &[u8], at: &[usize], handler: usize) -> usize
+    requires { ⌜ Imaged (now image) ⌝ }
+    requires { ⌜ Placed (now image) (now at) ⌝ }
+    requires { ⌜ handler ≡ program (now image) .handler ⌝ }
+    ensures { λ r. ⌜ ((handler ≡ 255 → ⊥) → program (now (image .entry)) .entry handler ≡ r) ⌝ }
+{
+    if handler == 255 {
+        return 0;
+    }
+    entry_of(image, at, handler)
+}
+
+// What is found once of an accepted image.
+pub(crate) fn fix(image: &[u8], at: &[usize]) -> Fixed
+    requires { ⌜ Imaged (now image) ⌝ }
+    requires { ⌜ Placed (now image) (now at) ⌝ }
+    requires { ⌜ 11 ≤ length (now image) ⌝ }
+    ensures { λ r. ⌜ Fixing (now (image .entry)) r ⌝ }
+{
+    let rulesets = image[7] as usize;
+    let handler = image[8] as usize;
+    let inputs = image[5] as usize;
+    let outputs = image[6] as usize;
+    let code = at[rulesets];
+    let entry = handler_entry(image, at, handler);
+    Fixed {
+        code,
+        inputs,
+        outputs,
+        handler,
+        entry,
+    }
 }
 
 // "any NaN stored is 7FC00000"
@@ -72,12 +111,37 @@ impl Regs {
             16 => self.if_true(lim, cost, b, stack, heap),
             17 => self.call(lim, cost, a, entry_of(image, at, a), stack),
             18 => self.give_back(lim, cost, stack),
-            19 | 20 | 21 => self.apply(lim, cost, op, a, b as u32, fixed.handler, fixed.entry, stack, heap),
+            19 | 20 | 21 => self.apply(
+                lim,
+                cost,
+                op,
+                a,
+                b as u32,
+                fixed.handler,
+                fixed.entry,
+                stack,
+                heap,
+            ),
             22 => self.start_matches(lim, cost, image, at, orders, order),
             23 => self.match_rule(lim, cost, image, at),
             24 => self.matched_rule(lim, cost),
             25 => self.match_none(lim, cost),
-            26..=32 => self.matching(lim, cost, op, a, b as u32, c, fixed.inputs, image, at, orders, order, stack, heap, wires),
+            26..=32 => self.matching(
+                lim,
+                cost,
+                op,
+                a,
+                b as u32,
+                c,
+                fixed.inputs,
+                image,
+                at,
+                orders,
+                order,
+                stack,
+                heap,
+                wires,
+            ),
             33 => self.unpack(lim, cost, stack, heap),
             34 => self.reorder(lim, cost, image, at, orders, order),
             35 => self.copy_input(lim, cost, a, stack, heap, wires),

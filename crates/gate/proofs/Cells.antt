@@ -218,8 +218,8 @@ module _ (s : List ℕ) (i n : ℕ) where
       found : Fields s i n i
       found = record { values = end; many = z; right = tt; long = omega arith; within = l; here = refl }
 
-      by : (vs : Values) (ws : List ℕ) → T (goods vs) → n ≡ count vs → drop i s ≡ prefixes vs ++ ws → i
-          ≡ i + length (prefixes vs)
+      by : (vs : Values) (ws : List ℕ) → T (goods vs) → n ≡ count vs → drop i s ≡ prefixes vs ++ ws
+          → i ≡ i + length (prefixes vs)
       by end ws g m e = omega arith
       by (more v vs) ws g m e = absurd (omega arith)
 
@@ -227,8 +227,8 @@ module _ (s : List ℕ) (i n : ℕ) where
   unfolding prefixes goods
   bad-field z c = record { sound = λ k. absurd (k refl); complete = by }
     where
-      by : (vs : Values) (ws : List ℕ) → T (goods vs) → n ≡ count vs → drop i s ≡ prefixes vs ++ ws → 0
-          ≡ i + length (prefixes vs)
+      by : (vs : Values) (ws : List ℕ) → T (goods vs) → n ≡ count vs → drop i s ≡ prefixes vs ++ ws
+          → 0 ≡ i + length (prefixes vs)
       by end ws g m e = absurd (z m)
       by (more v vs) ws g m e =
           let a = e ∙ append-assoc (prefix v) (prefixes vs) ws in
@@ -251,8 +251,8 @@ module _ (s : List ℕ) (i n : ℕ) where
                 ∙ sym (append-assoc (prefix (a .value)) (prefixes (r .values)) (drop e s));
           }
 
-      by : (vs : Values) (ws : List ℕ) → T (goods vs) → n ≡ count vs → drop i s ≡ prefixes vs ++ ws → e
-          ≡ i + length (prefixes vs)
+      by : (vs : Values) (ws : List ℕ) → T (goods vs) → n ≡ count vs → drop i s ≡ prefixes vs ++ ws
+          → e ≡ i + length (prefixes vs)
       by end ws g m d = absurd (z m)
       by (more v vs) ws g m d =
           let a = d ∙ append-assoc (prefix v) (prefixes vs) ws in

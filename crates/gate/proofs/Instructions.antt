@@ -64,8 +64,8 @@ kind-last P x n r =
     kind-high P x n h
 
 -- what a field may hold goes by the program's sizes alone
-field-sized : (P : Program) (f : Field) (x : ℕ) → fieldOk (sized (P .inputs) (P .outputs) (P .rulesets) (P .size)) f x
-    ≡ fieldOk P f x
+field-sized : (P : Program) (f : Field) (x : ℕ)
+    → fieldOk (sized (P .inputs) (P .outputs) (P .rulesets) (P .size)) f x ≡ fieldOk P f x
 unfolding fieldOk
 field-sized P unused x = refl
 field-sized P anything x = refl

@@ -16,7 +16,8 @@ use Rattle.hume.specs.Refusals.{imageRefusal, cardOk, wiresOk, among, permutati
 use Rattle.hume.specs.Values.{wireOk}
 use Rattle.laws.proofs.Tests.{to-true, of-true, to-false, OneOf, one, other, or-cases, or-left, eqb-of}
 use Rattle.laws.proofs.Permutation.{permutation-lt, permutation-once, permutation-of, among-left, among-right, among-parts}
-use Rattle.gate.proofs.Rulesets.{Counted, counted, accepted-counts}
+use Rattle.laws.proofs.Passed.{image-passed}
+use Rattle.gate.proofs.Rulesets.{Counted, counted}
 use Rattle.gate.proofs.Tests.{both-ways, and-yes, and-no, every-yes, every-no, all-yes, all-no}
 
 -- ---- the card
@@ -125,7 +126,7 @@ part-of P order from to r ok e h ef et =
 module _ (m order places : List ℕ) (ok : imageRefusal m ≡ 0) (n : ℕ) (en : n ≡ byte m 7) where
   pub rulesets-few : n ≤ 32
   unfolding program
-  rulesets-few = let few = counted m (program m) (accepted-counts m ok) .rulesets in omega arith
+  rulesets-few = let few = counted m (program m) (image-passed m ok .counts) .rulesets in omega arith
 
   module _ (at : (k : ℕ) → k < 33 → getD places k 0 ≡ orderAt (program m) k) where
     pub whole-order : getD places n 0 ≡ orderAt (program m) (program m .rulesets)
@@ -138,7 +139,7 @@ module _ (m order places : List ℕ) (ok : imageRefusal m ≡ 0) (n : ℕ) (en :
     lent-part e r h =
         let few : n ≤ 32 = rulesets-few in
         part-of (program m) order (getD places r 0) (getD places (r + 1) 0) r
-        (counted m (program m) (accepted-counts m ok))
+        (counted m (program m) (image-passed m ok .counts))
         (e ∙ whole-order) (omega arith) (at r (omega arith)) (at (r + 1) (omega arith))
 
 module _ (P : Program) (order : List ℕ) where
@@ -147,15 +148,15 @@ module _ (P : Program) (order : List ℕ) where
   order-long n = and-no _ _ (ne-eqb (length order) (orderAt P (P .rulesets)) n)
 
   module _ (e : length order ≡ orderAt P (P .rulesets)) where
-    pub order-out : (r : ℕ) → r < P .rulesets → permutation (P .count r) (orderOf P order r) ≡ false → orderOk P order
-        ≡ false
+    pub order-out : (r : ℕ) → r < P .rulesets → permutation (P .count r) (orderOf P order r) ≡ false
+        → orderOk P order ≡ false
     unfolding orderOk
     order-out r h n =
         and-yes _ _ (eq-eqb (length order) (orderAt P (P .rulesets)) e)
         ∙ every-no (P .rulesets) (λ r. permutation (P .count r) (orderOf P order r)) r h n
 
-    pub order-in : ((r : ℕ) → r < P .rulesets → permutation (P .count r) (orderOf P order r) ≡ true) → orderOk P order
-        ≡ true
+    pub order-in : ((r : ℕ) → r < P .rulesets → permutation (P .count r) (orderOf P order r) ≡ true)
+        → orderOk P order ≡ true
     unfolding orderOk
     order-in y =
         and-yes _ _ (eq-eqb (length order) (orderAt P (P .rulesets)) e)

@@ -3,3 +3,4 @@ pub mod Rulesets
 pub mod Instructions
 pub mod Cells
 pub mod Lent
+pub mod Unique

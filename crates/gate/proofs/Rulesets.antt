@@ -1,6 +1,6 @@
 -- Laws of the image's counts and of its ruleset table, read from the front.
 use mathlib.Core.Path.{_≡_, refl, sym, ap, _∙_}
-use mathlib.Core.Bool.{Bool, true, false, _&&_, _||_}
+use mathlib.Core.Bool.{true, false, _&&_, _||_}
 use mathlib.Core.List.{List}
 use Prim.Native.Nat.{ℕ, zero, suc, _+_, _*_, _≤_, _<_}
 use native.Mathlib.Numerals.{add-one}
@@ -76,8 +76,7 @@ order-next m r from count ef ec = rw add-one (omega arith)
 -- ---- all the counts
 
 counts-are : (m : List ℕ)
-    → countsOk m (program m)
-    ≡ (rangesOk (byte m 5) (byte m 6) (byte m 7) (byte m 8) (half m 9)
+    → countsOk m (program m) ≡ (rangesOk (byte m 5) (byte m 6) (byte m 7) (byte m 8) (half m 9)
     && (every (byte m 7) (countOk (program m)) && eqb (rulesetAt m (byte m 7) + 8 * half m 9) (length m)))
 unfolding countsOk rangesOk program codeAt
 counts-are m =
@@ -162,8 +161,8 @@ module _ (m : List ℕ) (r at size : ℕ) (ea : at ≡ rulesetAt m r) (es : size
 -- ---- where each ruleset begins
 
 -- a table that holds up to k + 1 what f says, with one entry more
-pub entry-more : (l : List ℕ) (k v : ℕ) (f : ℕ → ℕ) → k + 1 < length l → ((j : ℕ) → j < k + 1 → getD l j 0 ≡ f j) → v
-    ≡ f (k + 1)
+pub entry-more : (l : List ℕ) (k v : ℕ) (f : ℕ → ℕ) → k + 1 < length l → ((j : ℕ) → j < k + 1 → getD l j 0 ≡ f j)
+    → v ≡ f (k + 1)
     → (j : ℕ) → j < k + 1 + 1 → getD (set l (k + 1) v) j 0 ≡ f j
 entry-more l k v f h old e =
     below-more (λ (j : ℕ). getD (set l (k + 1) v) j 0 ≡ f j) (k + 1)
@@ -197,14 +196,3 @@ module _ (m : List ℕ) where
       → unless (codeOk (program m)) 4 0 ≡ imageRefusal m
   unfolding imageRefusal unless
   refused-code e v k = rw (e, v, k) refl
-
-  -- an accepted image has counts in their ranges
-  pub accepted-counts : imageRefusal m ≡ 0 → T (countsOk m (program m))
-  unfolding imageRefusal
-  accepted-counts e = third (lengthOk m) (versionOk m) (countsOk m (program m)) e
-    where
-      third : (a b c : Bool) → unless a 1 (unless b 2 (unless c 3 (unless (codeOk (program m)) 4 0))) ≡ 0 → T c
-      third true true true z = tt
-      third true true false z = absurd (unfold unless in omega arith)
-      third true false c z = absurd (unfold unless in omega arith)
-      third false b c z = absurd (unfold unless in omega arith)

@@ -4,7 +4,7 @@ use mathlib.Core.Bool.{Bool, _&&_, _||_}
 use mathlib.Core.List.{List}
 use Prim.Native.Nat.{ℕ, zero, suc, _+_, _*_, _/_, _%_, _<_}
 use lib.Dec.{leb, ltb, eqb}
-use lib.ListN.{getD}
+use lib.ListN.{length, getD}
 use Rattle.hume.specs.Tests.{pick, every}
 use Rattle.hume.specs.Image.{Program, program, byte, half, rulesetAt, orderAt}
 use Rattle.hume.specs.Refusals.{Field, Fields, fields, unused, anything, truth, address, input, output, callee, primitive1, primitive2, fieldOk, formatOf, opcodeOk, rulesetOk}
@@ -82,5 +82,7 @@ endsOk op = eqb op 15 || (eqb op 18 || (eqb op 21 || eqb op 40))
 
 -- where each ruleset begins, in the image and in the rule order, to one past the last that there may be
 pub record LaidOut (m : List ℕ) (at order : List ℕ) : Type 0 where
+  pub at-length : length at ≡ 33
+  pub order-length : length order ≡ 33
   pub begins : (k : ℕ) → k < 33 → getD at k 0 ≡ rulesetAt m k
   pub ordered : (k : ℕ) → k < 33 → getD order k 0 ≡ orderAt (program m) k

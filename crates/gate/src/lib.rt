@@ -1,9 +1,9 @@
-// Which calls are turned away: document 01, "What is turned away, first that applies", 1 to 8. Any slice may be handed in:
-// empty, huge or lying about its length.
-pub mod code;
+// Which calls are turned away: document 01, "What is turned away, first that applies", 1 to 8. Any slice may be handed
+// in: empty, huge or lying about its length.
+mod code;
 pub mod image;
-pub mod order;
-pub mod wires;
+mod order;
+mod wires;
 
 pub use image::Layout;
 pub use image::Verdict;

@@ -8,3 +8,5 @@ pub mod Objects
 pub mod Wires
 pub mod Deeds
 pub mod Permutation
+pub mod Places
+pub mod Passed

@@ -123,10 +123,10 @@ returns c =
     let loop = c .before .loop in
     let loop-test = c .loop-test in
     record {
-      begins =
-          λ j h. (loop .inv .3) j (omega (arith, loop-test .left));
-      ordered =
-          λ j h. (loop .inv .4) j (omega (arith, loop-test .left));
+      at-length = loop .inv .1;
+      order-length = loop .inv .2;
+      begins = λ j h. (loop .inv .3) j (omega (arith, loop-test .left));
+      ordered = λ j h. (loop .inv .4) j (omega (arith, loop-test .left));
     }
 
 pub layout-spec : {M : Type 1} → statement M
