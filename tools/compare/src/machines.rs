@@ -1,0 +1,176 @@
+//! The machines, each from a case to all that it leaves behind.
+
+use cases::coverage::Coverage;
+use cases::Case;
+use second::Loan;
+use std::sync::atomic::{AtomicBool, Ordering};
+
+/// All that a call leaves behind.
+#[derive(Clone, Debug, PartialEq, Eq)]
+pub struct Outcome {
+    pub result: Answer,
+    pub stack: Vec<u32>,
+    pub heap: Vec<u32>,
+    pub wires: Vec<u32>,
+    pub order: Vec<u32>,
+}
+
+#[derive(Clone, Debug, PartialEq, Eq)]
+pub enum Answer {
+    Figures([u32; 8]),
+    Refused(u32),
+    /// A refusal must leave the figures 0, and there are none above 8.
+    #[cfg(feature = "proved")]
+    Odd(u32, [u32; 8]),
+    Panicked,
+}
+
+/// Runs `call` on copies of the case's buffers.
+fn outcome(case: &Case, call: impl FnOnce(&mut Outcome) -> Answer) -> Outcome {
+    let mut outcome = Outcome {
+        result: Answer::Panicked,
+        stack: case.stack.clone(),
+        heap: case.heap.clone(),
+        wires: case.wires.clone(),
+        order: case.order.clone(),
+    };
+    outcome.result = call(&mut outcome);
+    outcome
+}
+
+/// The second machine; what it executes is counted.
+pub fn second(case: &Case, coverage: &mut Coverage) -> Outcome {
+    outcome(case, |buffers| {
+        let loan = Loan {
+            image: &case.image,
+            card: &case.card,
+            time: case.time,
+            stack_limit: case.stack_limit,
+            heap_limit: case.heap_limit,
+            stack: &mut buffers.stack,
+            heap: &mut buffers.heap,
+            wires: &mut buffers.wires,
+            order: &mut buffers.order,
+        };
+        let result = second::run_watched(loan, coverage);
+        coverage.count(case, &result);
+        match result {
+            Ok(figures) => Answer::Figures(figures.in_order()),
+            Err(refusal) => Answer::Refused(refusal),
+        }
+    })
+}
+
+/// The copy of the second machine, with the mistake that is switched on, if any.
+pub fn copy(case: &Case) -> Outcome {
+    outcome(case, |buffers| {
+        let run = std::panic::AssertUnwindSafe(|| {
+            wrong::run(
+                &case.image,
+                &case.card,
+                case.time,
+                case.stack_limit,
+                case.heap_limit,
+                &mut buffers.stack,
+                &mut buffers.heap,
+                &mut buffers.wires,
+                &mut buffers.order,
+            )
+        });
+        QUIET.store(true, Ordering::Relaxed);
+        let result = std::panic::catch_unwind(run);
+        QUIET.store(false, Ordering::Relaxed);
+        match result {
+            Ok(Ok(figures)) => Answer::Figures(figures.in_order()),
+            Ok(Err(refusal)) => Answer::Refused(refusal),
+            Err(_) => Answer::Panicked,
+        }
+    })
+}
+
+static QUIET: AtomicBool = AtomicBool::new(false);
+
+/// A wrong machine may panic; that is a difference and needn't be told twice.
+pub fn keep_quiet() {
+    let usual = std::panic::take_hook();
+    std::panic::set_hook(Box::new(move |panic| {
+        if !QUIET.load(Ordering::Relaxed) {
+            usual(panic);
+        }
+    }));
+}
+
+#[cfg(not(feature = "proved"))]
+pub use copy as other;
+
+#[cfg(not(feature = "proved"))]
+pub const OTHER: &str = "its copy (the feature `proved` is off)";
+
+#[cfg(feature = "proved")]
+pub use proved::run as other;
+
+#[cfg(feature = "proved")]
+pub const OTHER: &str = "the proved machine";
+
+#[cfg(feature = "proved")]
+mod proved {
+    use super::{outcome, Answer, Outcome};
+    use cases::Case;
+
+    extern "C" {
+        /// The number of the refusal, or 0, and then the eight figures are in `figures`.
+        fn ham_run(
+            image: *const u8,
+            image_len: usize,
+            card: *const u32,
+            card_len: usize,
+            time: u32,
+            stack_limit: u32,
+            heap_limit: u32,
+            stack: *mut u32,
+            stack_len: usize,
+            heap: *mut u32,
+            heap_len: usize,
+            wires: *mut u32,
+            wires_len: usize,
+            order: *mut u32,
+            order_len: usize,
+            figures: *mut u32,
+            figures_len: usize,
+        ) -> u32;
+    }
+
+    pub fn run(case: &Case) -> Outcome {
+        outcome(case, |buffers| {
+            let mut figures = [0; 8];
+            // SAFETY: every pointer comes with the length of the slice it was taken from; the slices are distinct.
+            let refusal = unsafe {
+                ham_run(
+                    case.image.as_ptr(),
+                    case.image.len(),
+                    case.card.as_ptr(),
+                    case.card.len(),
+                    case.time,
+                    case.stack_limit,
+                    case.heap_limit,
+                    buffers.stack.as_mut_ptr(),
+                    buffers.stack.len(),
+                    buffers.heap.as_mut_ptr(),
+                    buffers.heap.len(),
+                    buffers.wires.as_mut_ptr(),
+                    buffers.wires.len(),
+                    buffers.order.as_mut_ptr(),
+                    buffers.order.len(),
+                    figures.as_mut_ptr(),
+                    figures.len(),
+                )
+            };
+            match refusal {
+                0 => Answer::Figures(figures),
+                // "A call turned away returns the number with all figures 0 and writes to no buffer."
+                1..=8 if figures == [0; 8] => Answer::Refused(refusal),
+                _ => Answer::Odd(refusal, figures),
+            }
+        })
+    }
+}
