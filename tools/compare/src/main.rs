@@ -5,6 +5,8 @@ mod machines;
 mod mistakes;
 mod program;
 mod report;
+#[cfg(test)]
+mod sums;
 
 use cases::coverage::Coverage;
 use cases::{case, Case, Kind, KINDS};

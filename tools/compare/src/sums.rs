@@ -1,6 +1,8 @@
-//! P1 to P12 of document 01, and the sentences that are easily got wrong.
+//! P1 to P12 of document 01, and the sentences that are easily got wrong, on both machines.
 
-use second::{run, Figures};
+use crate::machines::{other, second, Answer};
+use cases::coverage::Coverage;
+use cases::Case;
 
 type Code = Vec<(u8, u8, u16, u32)>;
 
@@ -17,11 +19,34 @@ struct Sum {
 }
 
 struct Outcome {
-    figures: Figures,
+    figures: [u32; 8],
     stack: Vec<u32>,
     heap: Vec<u32>,
     wires: Vec<u32>,
     order: Vec<u32>,
+}
+
+/// What both machines leave, or the refusal; one difference is a failure.
+fn both(case: &Case) -> Result<Outcome, u32> {
+    let left = second(case, &mut Coverage::default());
+    assert_eq!(left, other(case));
+    match left.result {
+        Answer::Figures(figures) => Ok(Outcome {
+            figures,
+            stack: left.stack,
+            heap: left.heap,
+            wires: left.wires,
+            order: left.order,
+        }),
+        Answer::Refused(refusal) => {
+            assert_eq!(
+                (&left.stack, &left.heap, &left.wires, &left.order),
+                (&case.stack, &case.heap, &case.wires, &case.order)
+            );
+            Err(refusal)
+        }
+        odd => panic!("{odd:?}"),
+    }
 }
 
 /// "Unless shown otherwise: card all 10, one ruleset, every ruleset with one rule at 0, entry 0, no handler, Schedule
@@ -78,28 +103,25 @@ impl Sum {
     }
 
     fn run(&self) -> Outcome {
-        let (t, s, h) = self.limits;
-        let mut stack = vec![0xAAAA_AAAA; 4100];
-        let mut heap = vec![0xBBBB_BBBB; 16400];
+        let (time, stack_limit, heap_limit) = self.limits;
         let mut wires = self.wires.clone();
         wires.resize(65 * usize::from(self.inputs + self.outputs), 0);
-        let mut order = self.order.clone();
-        let image = self.image();
-        let figures = run(
-            &image, &[10; 40], t, s, h, &mut stack, &mut heap, &mut wires, &mut order,
-        )
-        .unwrap();
-        Outcome {
-            figures,
-            stack,
-            heap,
+        both(&Case {
+            image: self.image(),
+            card: vec![10; 40],
+            time,
+            stack_limit,
+            heap_limit,
+            stack: vec![0xAAAA_AAAA; 4100],
+            heap: vec![0xBBBB_BBBB; 16400],
             wires,
-            order,
-        }
+            order: self.order.clone(),
+        })
+        .unwrap()
     }
 
     fn figures(&self) -> [u32; 8] {
-        self.run().figures.in_order()
+        self.run().figures
     }
 }
 
@@ -130,7 +152,7 @@ fn p8() {
     p8.rulesets.push((3, vec![0]));
     p8.order = vec![0, 0];
     let outcome = p8.run();
-    assert_eq!(outcome.figures.in_order(), [0, 0, 2, 6, 60, 7, 2, 2]);
+    assert_eq!(outcome.figures, [0, 0, 2, 6, 60, 7, 2, 2]);
     assert_eq!(outcome.stack[..3], [1 << 28, 1 << 28, 0]);
 }
 
@@ -165,7 +187,7 @@ fn p12() {
     p12.inputs = 1;
     p12.wires = vec![5, 262144, 2, 131072, 5, 458752];
     let outcome = p12.run();
-    assert_eq!(outcome.figures.heap, 6);
+    assert_eq!(outcome.figures[7], 6);
     assert_eq!(outcome.heap[..7], [131072, 5, 262144, 2, 268435456, 536870912, 0]);
     assert_eq!(outcome.stack[0], (1 << 28) + 2);
     assert_eq!(outcome.wires[..7], [5, 262144, 2, 131072, 5, 458752, 0]);
@@ -179,7 +201,7 @@ fn raising() {
     raising.handler = 1;
     raising.order = vec![0, 0];
     let outcome = raising.run();
-    assert_eq!(outcome.figures.in_order(), [0, 0, 2, 3, 30, 5, 5, 3]);
+    assert_eq!(outcome.figures, [0, 0, 2, 3, 30, 5, 5, 3]);
     assert_eq!(outcome.stack[..6], [1 << 28, 0, 0, 0, 6 << 28, 0]);
     assert_eq!(outcome.heap[..4], [6 * 65536 + 513, 1, 2 << 28, 0]);
 }
@@ -203,8 +225,8 @@ fn sixty_four_words() {
         let mut writing = sum(&code);
         writing.outputs = 1;
         let outcome = writing.run();
-        assert_eq!((outcome.figures.ending, outcome.wires[0]), (ending, words));
-        assert_eq!(outcome.figures.detail, if ending == 2 { 6 } else { 0 });
+        assert_eq!((outcome.figures[0], outcome.wires[0]), (ending, words));
+        assert_eq!(outcome.figures[1], if ending == 2 { 6 } else { 0 });
     }
 }
 
@@ -213,10 +235,18 @@ fn sixty_four_words() {
 fn refusals() {
     let good = p1(7).image();
     let refuse = |image: &[u8], card: &[u32], s: u32, h: u32, wires: usize, order: &[u32]| {
-        let (mut stack, mut heap, mut wires, mut order) = ([7; 10], [7; 10], vec![7; wires], order.to_vec());
-        let result = run(image, card, 0, s, h, &mut stack, &mut heap, &mut wires, &mut order);
-        let kept = stack.iter().chain(&heap).chain(&wires).all(|word| *word == 7);
-        result.map_or_else(|refusal| if kept { refusal } else { 99 }, |_| 0)
+        let case = Case {
+            image: image.to_vec(),
+            card: card.to_vec(),
+            time: 0,
+            stack_limit: s,
+            heap_limit: h,
+            stack: vec![7; 10],
+            heap: vec![7; 10],
+            wires: vec![7; wires],
+            order: order.to_vec(),
+        };
+        both(&case).err().unwrap_or(0)
     };
     let changed = |place: usize, byte: u8| {
         let mut image = good.clone();
