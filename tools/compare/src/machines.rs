@@ -116,55 +116,23 @@ pub const OTHER: &str = "the proved machine";
 mod proved {
     use super::{outcome, Answer, Outcome};
     use cases::Case;
-
-    extern "C" {
-        /// The number of the refusal, or 0, and then the eight figures are in `figures`.
-        fn ham_run(
-            image: *const u8,
-            image_len: usize,
-            card: *const u32,
-            card_len: usize,
-            time: u32,
-            stack_limit: u32,
-            heap_limit: u32,
-            stack: *mut u32,
-            stack_len: usize,
-            heap: *mut u32,
-            heap_len: usize,
-            wires: *mut u32,
-            wires_len: usize,
-            order: *mut u32,
-            order_len: usize,
-            figures: *mut u32,
-            figures_len: usize,
-        ) -> u32;
-    }
+    use homirelanto::{run_numbered, Lent, Limits};
 
     pub fn run(case: &Case) -> Outcome {
         outcome(case, |buffers| {
             let mut figures = [0; 8];
-            // SAFETY: every pointer comes with the length of the slice it was taken from; the slices are distinct.
-            let refusal = unsafe {
-                ham_run(
-                    case.image.as_ptr(),
-                    case.image.len(),
-                    case.card.as_ptr(),
-                    case.card.len(),
-                    case.time,
-                    case.stack_limit,
-                    case.heap_limit,
-                    buffers.stack.as_mut_ptr(),
-                    buffers.stack.len(),
-                    buffers.heap.as_mut_ptr(),
-                    buffers.heap.len(),
-                    buffers.wires.as_mut_ptr(),
-                    buffers.wires.len(),
-                    buffers.order.as_mut_ptr(),
-                    buffers.order.len(),
-                    figures.as_mut_ptr(),
-                    figures.len(),
-                )
+            let limits = Limits {
+                time: case.time,
+                stack: case.stack_limit,
+                heap: case.heap_limit,
             };
+            let lent = Lent {
+                stack: &mut buffers.stack,
+                heap: &mut buffers.heap,
+                wires: &mut buffers.wires,
+                order: &mut buffers.order,
+            };
+            let refusal = run_numbered(&case.image, &case.card, limits, lent, &mut figures);
             match refusal {
                 0 => Answer::Figures(figures),
                 // "A call turned away returns the number with all figures 0 and writes to no buffer."
