@@ -9,6 +9,7 @@
 mod assemble;
 pub mod files;
 mod line;
+mod literals;
 mod names;
 mod parse;
 mod program;

@@ -1,7 +1,8 @@
 //! One line of text: its tokens, and what is read from them.
 
+use crate::literals;
 use crate::names;
-use crate::value::{self, Value, ROOM};
+use crate::value::{Value, ROOM};
 use std::fmt;
 use std::ops::RangeInclusive;
 
@@ -163,7 +164,7 @@ impl<'a> Line<'a> {
         let token = self.take();
         let (low, high) = (*range.start(), *range.end());
         let expected = || token.expected(&format!("{what} in {low}..{high}"));
-        let number = read_integer(token.text).ok_or_else(expected)?;
+        let number = literals::signed(token.text).ok_or_else(expected)?;
         u32::try_from(number)
             .ok()
             .filter(|number| range.contains(number))
@@ -191,11 +192,11 @@ impl<'a> Line<'a> {
     }
 
     pub fn integer(&mut self) -> Result<i32, Error> {
-        integer(self.take())
+        literals::integer(self.take())
     }
 
     pub fn float(&mut self) -> Result<u32, Error> {
-        float(self.take())
+        literals::float(self.take())
     }
 
     /// What a wire holds: `empty`, or one value.
@@ -226,8 +227,8 @@ impl<'a> Line<'a> {
             "False" => Ok(Value::Bool(false)),
             "(" => Ok(Value::Tuple(self.fields(room)?)),
             text if text.starts_with(['C', 'E']) => self.tagged(token, room),
-            text if looks_like_float(text) => wire_float(token),
-            text if looks_like_integer(text) => Ok(Value::Int(integer(token)?)),
+            text if literals::looks_like_float(text) => literals::wire_float(token),
+            text if literals::looks_like_integer(text) => Ok(Value::Int(literals::integer(token)?)),
             _ => Err(token.expected("a value")),
         }
     }
@@ -235,7 +236,7 @@ impl<'a> Line<'a> {
     /// C and a tag, or E and an exception, then fields.
     fn tagged(&mut self, token: Token<'a>, room: &mut usize) -> Result<Value, Error> {
         let (kind, digits) = token.text.split_at(1);
-        let tag = decimal(digits).and_then(|tag| u16::try_from(tag).ok());
+        let tag = literals::decimal(digits).and_then(|tag| u16::try_from(tag).ok());
         let Some(tag) = tag else {
             return Err(token.error(format!(
                 "expected {kind} and a tag in 0..65535, not `{}`",
@@ -267,119 +268,4 @@ impl<'a> Line<'a> {
             }
         }
     }
-}
-
-fn decimal(text: &str) -> Option<u64> {
-    let digits = !text.is_empty() && text.bytes().all(|byte| byte.is_ascii_digit());
-    if digits {
-        text.parse().ok()
-    } else {
-        None
-    }
-}
-
-fn hexadecimal(text: &str) -> Option<u64> {
-    let digits = !text.is_empty() && text.bytes().all(|byte| byte.is_ascii_hexdigit());
-    if digits {
-        u64::from_str_radix(text, 16).ok()
-    } else {
-        None
-    }
-}
-
-/// Decimals, perhaps with a sign, or 0x and hexadecimals.
-fn read_integer(text: &str) -> Option<i64> {
-    let (negative, magnitude) = match (text.strip_prefix('-'), text.strip_prefix("0x")) {
-        (Some(digits), _) => (true, decimal(digits)?),
-        (_, Some(digits)) => (false, hexadecimal(digits)?),
-        _ => (false, decimal(text)?),
-    };
-    let magnitude = i64::try_from(magnitude).ok()?;
-    Some(if negative { -magnitude } else { magnitude })
-}
-
-fn looks_like_integer(text: &str) -> bool {
-    let digits = text.strip_prefix('-').unwrap_or(text);
-    digits.starts_with(|first: char| first.is_ascii_digit())
-}
-
-fn looks_like_float(text: &str) -> bool {
-    let named = ["NaN", "Infinity", "-Infinity"].contains(&text);
-    let hexadecimals = text.starts_with("0x");
-    let point = looks_like_integer(text) && !hexadecimals && text.contains(['.', 'e', 'E']);
-    named || point || text.starts_with("0f")
-}
-
-/// An Int: signed decimals, or 0x and the bits.
-fn integer(token: Token<'_>) -> Result<i32, Error> {
-    let expected = || token.expected("an Int in -2147483648..2147483647, or 0x and its bits");
-    let number = read_integer(token.text).ok_or_else(expected)?;
-    let bits = token.text.starts_with("0x");
-    let integer = if bits {
-        u32::try_from(number).ok().map(|bits| bits as i32)
-    } else {
-        i32::try_from(number).ok()
-    };
-    integer.ok_or_else(expected)
-}
-
-/// A Float's bits: decimals with a point or an exponent, NaN, Infinity, -Infinity, or 0f and the bits.
-fn float(token: Token<'_>) -> Result<u32, Error> {
-    let bits = match token.text {
-        "NaN" => Some(value::NAN),
-        "Infinity" => Some(f32::INFINITY.to_bits()),
-        "-Infinity" => Some(f32::NEG_INFINITY.to_bits()),
-        text => match text.strip_prefix("0f") {
-            Some(digits) => float_bits(digits),
-            None => decimal_float(token)?,
-        },
-    };
-    bits.ok_or_else(|| token.expected("a Float, such as 3.0, 1e-3, NaN, -Infinity or 0f40400000"))
-}
-
-fn float_bits(digits: &str) -> Option<u32> {
-    let bits = hexadecimal(digits)?;
-    if digits.len() == 8 {
-        u32::try_from(bits).ok()
-    } else {
-        None
-    }
-}
-
-/// The nearest Float, ties to even: this is what `parse` gives.
-fn decimal_float(token: Token<'_>) -> Result<Option<u32>, Error> {
-    if !is_decimal_float(token.text) {
-        return Ok(None);
-    }
-    match token.text.parse::<f32>() {
-        Ok(float) if float.is_finite() => Ok(Some(float.to_bits())),
-        Ok(_) => Err(token.error(format!("`{}` is too large for a Float", token.shown()))),
-        Err(_) => Ok(None),
-    }
-}
-
-/// Digits, then a point and digits, or an exponent, or both.
-fn is_decimal_float(text: &str) -> bool {
-    let unsigned = text.strip_prefix('-').unwrap_or(text);
-    let (mantissa, exponent) = match unsigned.split_once(['e', 'E']) {
-        Some((mantissa, exponent)) => (mantissa, Some(exponent)),
-        None => (unsigned, None),
-    };
-    let (whole, fraction) = match mantissa.split_once('.') {
-        Some((whole, fraction)) => (whole, Some(fraction)),
-        None => (mantissa, None),
-    };
-    let digits = |text: &str| !text.is_empty() && text.bytes().all(|byte| byte.is_ascii_digit());
-    let good_exponent = |text: &str| digits(text.strip_prefix(['-', '+']).unwrap_or(text));
-    let is_integer = fraction.is_none() && exponent.is_none();
-    !is_integer && digits(whole) && fraction.is_none_or(digits) && exponent.is_none_or(good_exponent)
-}
-
-/// "A Float that is a NaN is 7FC00000."
-fn wire_float(token: Token<'_>) -> Result<Value, Error> {
-    let bits = float(token)?;
-    if value::is_odd_nan(bits) {
-        return Err(token.error("a NaN on a wire is 7FC00000: write NaN".to_string()));
-    }
-    Ok(Value::Float(bits))
 }

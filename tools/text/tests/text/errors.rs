@@ -306,7 +306,7 @@ fn numbers() {
     }
 }
 
-/// Every Float that has a name, as it stands on a wire.
+/// For hosts.
 #[test]
 fn wires_are_shown() {
     let mut words = [0; 65];

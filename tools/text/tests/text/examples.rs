@@ -55,7 +55,7 @@ fn the_lines_are_document_01s() {
     }
 }
 
-/// The heap and the wires that the second machine leaves, with the limits and card of the examples that have caps.
+/// The heap and the wires that the second machine leaves.
 fn left(text: &str) -> (Vec<u32>, Vec<u32>) {
     let run = assemble(text).unwrap();
     let (image, bytes) = (run.image(), run.bytes());

@@ -3,6 +3,7 @@
 mod errors;
 mod examples;
 mod laws;
+mod names;
 mod programs;
 
 use std::fs;
