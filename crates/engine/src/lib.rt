@@ -18,6 +18,7 @@ use gate::Verdict;
 use gate::layout;
 use gate::verdict;
 use image::entry_of;
+use prims::CYCLES;
 use regs::Limits;
 use regs::Regs;
 use stepping::fix;
@@ -132,6 +133,7 @@ fn run_accepted(
         heap: h as usize,
     };
     let first = begin(entry_of(image, &at, 0), t);
+    let cycles = CYCLES;
     let turn = first.run(
         lim,
         fixed,
@@ -139,6 +141,7 @@ fn run_accepted(
         &at,
         &orders,
         card,
+        &cycles,
         stack,
         heap,
         wires,

@@ -16,6 +16,7 @@ ghost use Rattle.hume.specs.Machine.{machine};
 ghost use Rattle.engine.specs.Turns.{Meets, buffers};
 ghost use Rattle.engine.specs.Fits.{Imaged};
 ghost use Rattle.engine.specs.Tables.{Placed};
+ghost use Rattle.engine.specs.Outcomes.{cycleTable};
 ghost use Rattle.engine.specs.Ready.{Ready, Fixing, payload};
 
 // What is found once of an image: where its instructions begin, how many wires it has, and its handler with its entry.
@@ -70,7 +71,8 @@ fn stored(op: usize, c: u32) -> u32
 }
 
 impl Regs {
-    // Every function that it calls has no other caller, so that the whole machine is one loop. The headers of MkBool, MkInt and
+    // Every function that takes the registers has no other caller, so that the whole machine is one loop, and the fields of an
+    // instruction are read where they are needed. The headers of MkBool, MkInt and
     // MkFloat are their opcodes, those of MkTuple and MkCon one less; a field that an instruction doesn't name is 0.
     pub(crate) fn step(
         self,
@@ -80,45 +82,62 @@ impl Regs {
         at: &[usize],
         orders: &[usize],
         card: &[u32],
+        table: &[u16],
         stack: &mut [u32],
         heap: &mut [u32],
         wires: &mut [u32],
         order: &mut [u32],
     ) -> Turn
         requires { ⌜ Ready (now image) (now card) (now at) (now orders) lim fixed self (buffers (now stack) (now heap) (now wires) (now order)) ⌝ }
+        requires { ⌜ now table ≡ cycleTable ⌝ }
         ensures { λ r. ⌜ Meets lim self (buffers (now (stack .entry)) (now (heap .entry)) (now (wires .entry)) (now (order .entry))) (machine (program (now (image .entry))) (now (card .entry)) .act) r (buffers (now (stack .exit)) (now (heap .exit)) (now (wires .exit)) (now (order .exit))) ⌝ }
     {
         let pc = self.pc;
         let code = fixed.code;
         let op = opcode_at(image, code, pc);
-        let a = a_at(image, code, pc);
-        let b = b_at(image, code, pc);
-        let c = c_at(image, code, pc);
         let cost = card[op - 1] as usize;
         match op {
-            1 | 2 | 3 => self.mk_atom(lim, cost, (op * 65536) as u32, stored(op, c), stack, heap),
+            1 | 2 | 3 => self.mk_atom(
+                lim,
+                cost,
+                (op * 65536) as u32,
+                stored(op, c_at(image, code, pc)),
+                stack,
+                heap,
+            ),
             4 => self.mk_none(lim, cost, stack),
-            5 | 6 => self.mk_block(lim, cost, ((op - 1) * 65536 + b) as u32, a, stack, heap),
-            7 => self.push_nulls(lim, cost, a, stack),
-            8 => self.pop(lim, cost, a),
-            9 => self.slide(lim, cost, a, stack),
-            10 => self.copy(lim, cost, a, stack),
-            11 => self.copy_arg(lim, cost, a, stack),
-            12 => self.create_frame(lim, cost, a, stack),
-            13 => self.push_var(lim, cost, a, stack),
-            14 => self.make_var(lim, cost, a, stack),
-            15 => self.goto(lim, cost, b),
-            16 => self.if_true(lim, cost, b, stack, heap),
-            17 => self.call(lim, cost, a, entry_of(image, at, a), stack),
+            5 | 6 => self.mk_block(
+                lim,
+                cost,
+                ((op - 1) * 65536 + b_at(image, code, pc)) as u32,
+                a_at(image, code, pc),
+                stack,
+                heap,
+            ),
+            7 => self.push_nulls(lim, cost, a_at(image, code, pc), stack),
+            8 => self.pop(lim, cost, a_at(image, code, pc)),
+            9 => self.slide(lim, cost, a_at(image, code, pc), stack),
+            10 => self.copy(lim, cost, a_at(image, code, pc), stack),
+            11 => self.copy_arg(lim, cost, a_at(image, code, pc), stack),
+            12 => self.create_frame(lim, cost, a_at(image, code, pc), stack),
+            13 => self.push_var(lim, cost, a_at(image, code, pc), stack),
+            14 => self.make_var(lim, cost, a_at(image, code, pc), stack),
+            15 => self.goto(lim, cost, b_at(image, code, pc)),
+            16 => self.if_true(lim, cost, b_at(image, code, pc), stack, heap),
+            17 => {
+                let a = a_at(image, code, pc);
+                self.call(lim, cost, a, entry_of(image, at, a), stack)
+            }
             18 => self.give_back(lim, cost, stack),
             19 | 20 | 21 => self.apply(
                 lim,
                 cost,
                 op,
-                a,
-                b as u32,
+                a_at(image, code, pc),
+                b_at(image, code, pc) as u32,
                 fixed.handler,
                 fixed.entry,
+                table,
                 stack,
                 heap,
             ),
@@ -130,9 +149,9 @@ impl Regs {
                 lim,
                 cost,
                 op,
-                a,
-                b as u32,
-                c,
+                a_at(image, code, pc),
+                b_at(image, code, pc) as u32,
+                c_at(image, code, pc),
                 fixed.inputs,
                 image,
                 at,
@@ -144,10 +163,18 @@ impl Regs {
             ),
             33 => self.unpack(lim, cost, stack, heap),
             34 => self.reorder(lim, cost, image, at, orders, order),
-            35 => self.copy_input(lim, cost, a, stack, heap, wires),
-            36 | 37 => self.consume(lim, cost, a, wires),
+            35 => self.copy_input(lim, cost, a_at(image, code, pc), stack, heap, wires),
+            36 | 37 => self.consume(lim, cost, a_at(image, code, pc), wires),
             38 => self.check_outputs(lim, cost, fixed.inputs, fixed.outputs, stack, wires),
-            39 => self.write(lim, cost, a, fixed.inputs, stack, heap, wires),
+            39 => self.write(
+                lim,
+                cost,
+                a_at(image, code, pc),
+                fixed.inputs,
+                stack,
+                heap,
+                wires,
+            ),
             _ => self.schedule(lim, cost),
         }
     }

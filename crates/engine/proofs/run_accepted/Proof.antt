@@ -1,6 +1,7 @@
 use mathlib.Core.Path.{_≡_, sym, refl, _∙_}
 use Prim.Native.Nat.{ℕ, _<_}
 use native.Mathlib.Omega.{arith}
+use Rattle.engine.specs.Outcomes.{cycleTable}
 use Rattle.engine.proofs.Imaging.{placed-of}
 use Rattle.engine.proofs.Opening.{bytes-of, words-of, laid-out, an-image, long-enough, some-ruleset, under, ran-over, last-small, answered}
 use borrow.Author.Needs.{needs}
@@ -54,48 +55,52 @@ slice-aggregate-run c = search needs
 slice-aggregate-run-2 : tie.Need-slice-aggregate-run-2
 slice-aggregate-run-2 c = search needs
 
+slice-aggregate-run-3 : tie.Need-slice-aggregate-run-3
+slice-aggregate-run-3 c = search needs
+
 -- src/lib.rt:132:9
 run-requires : tie.Need-run-requires
+unfolding cycleTable
 run-requires c κs =
-    let start = c .before .before .before .before .before .before .before .before .before .before .before .before .before .before .before .before .before .before .before .before in
-    let begin = c .before .before .before .before .before .before .begin in
-    let entry-of = c .before .before .before .before .before .before .before .entry-of in
-    let layout = c .before .before .before .before .before .before .before .before .before .before .before .before .before .layout in
-    let fix = c .before .before .before .before .before .before .before .before .before .fix in
-    let t : start .args .t < 4294967296 = omega (arith, start .good) in under _ _ _ _ _ _ _ _ _ (start .pre) (bytes-of (c .before .before .before .before .before .before .before .before .before .before .before .before .before .before .before .before .before .before .before .shared-slice-known .given)) (words-of (c .before .before .before .before .before .before .before .before .before .before .before .before .before .before .before .slice-known3 .given)) t _ (begin .ensures) (entry-of .ensures .0) refl refl (layout .ensures) (fix .ensures)
+    let start = c .before .before .before .before .before .before .before .before .before .before .before .before .before .before .before .before .before .before .before .before .before in
+    let begin = c .before .before .before .before .before .before .before .begin in
+    let entry-of = c .before .before .before .before .before .before .before .before .entry-of in
+    let layout = c .before .before .before .before .before .before .before .before .before .before .before .before .before .before .layout in
+    let fix = c .before .before .before .before .before .before .before .before .before .before .fix in
+    let t : start .args .t < 4294967296 = omega (arith, start .good) in (under _ _ _ _ _ _ _ _ _ (start .pre) (bytes-of (c .before .before .before .before .before .before .before .before .before .before .before .before .before .before .before .before .before .before .before .before .shared-slice-known .given)) (words-of (c .before .before .before .before .before .before .before .before .before .before .before .before .before .before .before .before .slice-known3 .given)) t _ (begin .ensures) (entry-of .ensures .0) refl refl (layout .ensures) (fix .ensures), refl)
 
 -- src/lib.rt:135:5
 wipe-requires : tie.Need-wipe-requires
 wipe-requires c κs =
-    let start = c .before .before .before .before .before .before .before .before .before .before .before .before .before .before .before .before .before .before .before .before .before .before .before .before .before .before .before .before .before .before .before in
-    let begin = c .before .before .before .before .before .before .before .before .before .before .before .before .before .before .before .before .before .begin in
-    let entry-of = c .before .before .before .before .before .before .before .before .before .before .before .before .before .before .before .before .before .before .entry-of in
-    let layout = c .before .before .before .before .before .before .before .before .before .before .before .before .before .before .before .before .before .before .before .before .before .before .before .before .layout in
-    let fix = c .before .before .before .before .before .before .before .before .before .before .before .before .before .before .before .before .before .before .before .before .fix in
+    let start = c .before .before .before .before .before .before .before .before .before .before .before .before .before .before .before .before .before .before .before .before .before .before .before .before .before .before .before .before .before .before .before .before in
+    let begin = c .before .before .before .before .before .before .before .before .before .before .before .before .before .before .before .before .before .before .begin in
+    let entry-of = c .before .before .before .before .before .before .before .before .before .before .before .before .before .before .before .before .before .before .before .entry-of in
+    let layout = c .before .before .before .before .before .before .before .before .before .before .before .before .before .before .before .before .before .before .before .before .before .before .before .before .before .layout in
+    let fix = c .before .before .before .before .before .before .before .before .before .before .before .before .before .before .before .before .before .before .before .before .before .fix in
     let run = c .before .before .before .before .before .before .before .before .before .before .run in
-    let t : start .args .t < 4294967296 = omega (arith, start .good) in let o = ran-over _ _ _ _ _ _ _ _ _ (start .pre) (bytes-of (c .before .before .before .before .before .before .before .before .before .before .before .before .before .before .before .before .before .before .before .before .before .before .before .before .before .before .before .before .before .before .shared-slice-known .given)) (words-of (c .before .before .before .before .before .before .before .before .before .before .before .before .before .before .before .before .before .before .before .before .before .before .before .before .before .before .slice-known3 .given)) t _ (begin .ensures) (entry-of .ensures .0) refl refl (layout .ensures) (fix .ensures) (run .ensures) in omega (arith, o .holds .sp, o .holds .stack .room)
+    let t : start .args .t < 4294967296 = omega (arith, start .good) in let o = ran-over _ _ _ _ _ _ _ _ _ (start .pre) (bytes-of (c .before .before .before .before .before .before .before .before .before .before .before .before .before .before .before .before .before .before .before .before .before .before .before .before .before .before .before .before .before .before .before .shared-slice-known .given)) (words-of (c .before .before .before .before .before .before .before .before .before .before .before .before .before .before .before .before .before .before .before .before .before .before .before .before .before .before .before .slice-known3 .given)) t _ (begin .ensures) (entry-of .ensures .0) refl refl (layout .ensures) (fix .ensures) (run .ensures) in omega (arith, o .holds .sp, o .holds .stack .room)
 
 -- src/lib.rt:136:5
 wipe-requires-2 : tie.Need-wipe-requires-2
 wipe-requires-2 c κs =
-    let start = c .before .before .before .before .before .before .before .before .before .before .before .before .before .before .before .before .before .before .before .before .before .before .before .before .before .before .before .before .before .before .before .before .before .before .before in
-    let begin = c .before .before .before .before .before .before .before .before .before .before .before .before .before .before .before .before .before .before .before .before .before .begin in
-    let entry-of = c .before .before .before .before .before .before .before .before .before .before .before .before .before .before .before .before .before .before .before .before .before .before .entry-of in
-    let layout = c .before .before .before .before .before .before .before .before .before .before .before .before .before .before .before .before .before .before .before .before .before .before .before .before .before .before .before .before .layout in
-    let fix = c .before .before .before .before .before .before .before .before .before .before .before .before .before .before .before .before .before .before .before .before .before .before .before .before .fix in
+    let start = c .before .before .before .before .before .before .before .before .before .before .before .before .before .before .before .before .before .before .before .before .before .before .before .before .before .before .before .before .before .before .before .before .before .before .before .before in
+    let begin = c .before .before .before .before .before .before .before .before .before .before .before .before .before .before .before .before .before .before .before .before .before .before .begin in
+    let entry-of = c .before .before .before .before .before .before .before .before .before .before .before .before .before .before .before .before .before .before .before .before .before .before .before .entry-of in
+    let layout = c .before .before .before .before .before .before .before .before .before .before .before .before .before .before .before .before .before .before .before .before .before .before .before .before .before .before .before .before .before .layout in
+    let fix = c .before .before .before .before .before .before .before .before .before .before .before .before .before .before .before .before .before .before .before .before .before .before .before .before .before .fix in
     let run = c .before .before .before .before .before .before .before .before .before .before .before .before .before .before .run in
-    let t : start .args .t < 4294967296 = omega (arith, start .good) in let o = ran-over _ _ _ _ _ _ _ _ _ (start .pre) (bytes-of (c .before .before .before .before .before .before .before .before .before .before .before .before .before .before .before .before .before .before .before .before .before .before .before .before .before .before .before .before .before .before .before .before .before .before .shared-slice-known .given)) (words-of (c .before .before .before .before .before .before .before .before .before .before .before .before .before .before .before .before .before .before .before .before .before .before .before .before .before .before .before .before .before .before .slice-known3 .given)) t _ (begin .ensures) (entry-of .ensures .0) refl refl (layout .ensures) (fix .ensures) (run .ensures) in omega (arith, o .holds .hp, o .holds .heap .room)
+    let t : start .args .t < 4294967296 = omega (arith, start .good) in let o = ran-over _ _ _ _ _ _ _ _ _ (start .pre) (bytes-of (c .before .before .before .before .before .before .before .before .before .before .before .before .before .before .before .before .before .before .before .before .before .before .before .before .before .before .before .before .before .before .before .before .before .before .before .shared-slice-known .given)) (words-of (c .before .before .before .before .before .before .before .before .before .before .before .before .before .before .before .before .before .before .before .before .before .before .before .before .before .before .before .before .before .before .before .slice-known3 .given)) t _ (begin .ensures) (entry-of .ensures .0) refl refl (layout .ensures) (fix .ensures) (run .ensures) in omega (arith, o .holds .hp, o .holds .heap .room)
 
 -- src/lib.rt:137:5
 sum-up-requires : tie.Need-sum-up-requires
 sum-up-requires c κs =
-    let start = c .before .before .before .before .before .before .before .before .before .before .before .before .before .before .before .before .before .before .before .before .before .before .before .before .before .before .before .before .before .before .before .before .before .before .before .before .before .before in
-    let begin = c .before .before .before .before .before .before .before .before .before .before .before .before .before .before .before .before .before .before .before .before .before .before .before .before .begin in
-    let entry-of = c .before .before .before .before .before .before .before .before .before .before .before .before .before .before .before .before .before .before .before .before .before .before .before .before .before .entry-of in
-    let layout = c .before .before .before .before .before .before .before .before .before .before .before .before .before .before .before .before .before .before .before .before .before .before .before .before .before .before .before .before .before .before .before .layout in
-    let fix = c .before .before .before .before .before .before .before .before .before .before .before .before .before .before .before .before .before .before .before .before .before .before .before .before .before .before .before .fix in
+    let start = c .before .before .before .before .before .before .before .before .before .before .before .before .before .before .before .before .before .before .before .before .before .before .before .before .before .before .before .before .before .before .before .before .before .before .before .before .before .before .before in
+    let begin = c .before .before .before .before .before .before .before .before .before .before .before .before .before .before .before .before .before .before .before .before .before .before .before .before .before .begin in
+    let entry-of = c .before .before .before .before .before .before .before .before .before .before .before .before .before .before .before .before .before .before .before .before .before .before .before .before .before .before .entry-of in
+    let layout = c .before .before .before .before .before .before .before .before .before .before .before .before .before .before .before .before .before .before .before .before .before .before .before .before .before .before .before .before .before .before .before .before .layout in
+    let fix = c .before .before .before .before .before .before .before .before .before .before .before .before .before .before .before .before .before .before .before .before .before .before .before .before .before .before .before .before .fix in
     let run = c .before .before .before .before .before .before .before .before .before .before .before .before .before .before .before .before .before .run in
-    let t : start .args .t < 4294967296 = omega (arith, start .good) in let o = ran-over _ _ _ _ _ _ _ _ _ (start .pre) (bytes-of (c .before .before .before .before .before .before .before .before .before .before .before .before .before .before .before .before .before .before .before .before .before .before .before .before .before .before .before .before .before .before .before .before .before .before .before .before .before .shared-slice-known .given)) (words-of (c .before .before .before .before .before .before .before .before .before .before .before .before .before .before .before .before .before .before .before .before .before .before .before .before .before .before .before .before .before .before .before .before .before .slice-known3 .given)) t _ (begin .ensures) (entry-of .ensures .0) refl refl (layout .ensures) (fix .ensures) (run .ensures) in let s = last-small _ _ _ _ _ _ _ _ _ (start .pre) (bytes-of (c .before .before .before .before .before .before .before .before .before .before .before .before .before .before .before .before .before .before .before .before .before .before .before .before .before .before .before .before .before .before .before .before .before .before .before .before .before .shared-slice-known .given)) (words-of (c .before .before .before .before .before .before .before .before .before .before .before .before .before .before .before .before .before .before .before .before .before .before .before .before .before .before .before .before .before .before .before .before .before .slice-known3 .given)) t o in (o .left, s .pc, s .steps, s .peak, s .sp, s .hp)
+    let t : start .args .t < 4294967296 = omega (arith, start .good) in let o = ran-over _ _ _ _ _ _ _ _ _ (start .pre) (bytes-of (c .before .before .before .before .before .before .before .before .before .before .before .before .before .before .before .before .before .before .before .before .before .before .before .before .before .before .before .before .before .before .before .before .before .before .before .before .before .before .shared-slice-known .given)) (words-of (c .before .before .before .before .before .before .before .before .before .before .before .before .before .before .before .before .before .before .before .before .before .before .before .before .before .before .before .before .before .before .before .before .before .before .slice-known3 .given)) t _ (begin .ensures) (entry-of .ensures .0) refl refl (layout .ensures) (fix .ensures) (run .ensures) in let s = last-small _ _ _ _ _ _ _ _ _ (start .pre) (bytes-of (c .before .before .before .before .before .before .before .before .before .before .before .before .before .before .before .before .before .before .before .before .before .before .before .before .before .before .before .before .before .before .before .before .before .before .before .before .before .before .shared-slice-known .given)) (words-of (c .before .before .before .before .before .before .before .before .before .before .before .before .before .before .before .before .before .before .before .before .before .before .before .before .before .before .before .before .before .before .before .before .before .before .slice-known3 .given)) t o in (o .left, s .pc, s .steps, s .peak, s .sp, s .hp)
 
 -- src/lib.rt:112:1
 same-length : tie.Need-same-length
@@ -116,16 +121,16 @@ same-length-4 c = search needs
 -- src/lib.rt:112:1
 returns : tie.Need-returns
 returns c =
-    let start = c .before .before .before .before .before .before .before .before .before .before .before .before .before .before .before .before .before .before .before .before .before .before .before .before .before .before .before .before .before .before .before .before .before .before .before .before .before .before .before in
-    let begin = c .before .before .before .before .before .before .before .before .before .before .before .before .before .before .before .before .before .before .before .before .before .before .before .before .before .begin in
-    let entry-of = c .before .before .before .before .before .before .before .before .before .before .before .before .before .before .before .before .before .before .before .before .before .before .before .before .before .before .entry-of in
-    let layout = c .before .before .before .before .before .before .before .before .before .before .before .before .before .before .before .before .before .before .before .before .before .before .before .before .before .before .before .before .before .before .before .before .layout in
-    let fix = c .before .before .before .before .before .before .before .before .before .before .before .before .before .before .before .before .before .before .before .before .before .before .before .before .before .before .before .before .fix in
+    let start = c .before .before .before .before .before .before .before .before .before .before .before .before .before .before .before .before .before .before .before .before .before .before .before .before .before .before .before .before .before .before .before .before .before .before .before .before .before .before .before .before in
+    let begin = c .before .before .before .before .before .before .before .before .before .before .before .before .before .before .before .before .before .before .before .before .before .before .before .before .before .before .begin in
+    let entry-of = c .before .before .before .before .before .before .before .before .before .before .before .before .before .before .before .before .before .before .before .before .before .before .before .before .before .before .before .entry-of in
+    let layout = c .before .before .before .before .before .before .before .before .before .before .before .before .before .before .before .before .before .before .before .before .before .before .before .before .before .before .before .before .before .before .before .before .before .layout in
+    let fix = c .before .before .before .before .before .before .before .before .before .before .before .before .before .before .before .before .before .before .before .before .before .before .before .before .before .before .before .before .before .fix in
     let run = c .before .before .before .before .before .before .before .before .before .before .before .before .before .before .before .before .before .before .run in
     let wipe = c .before .before .before .before .before .before .before .wipe in
     let wipe2 = c .before .before .before .wipe2 in
     let sum-up = c .sum-up in
-    let t : start .args .t < 4294967296 = omega (arith, start .good) in let o = ran-over _ _ _ _ _ _ _ _ _ (start .pre) (bytes-of (c .before .before .before .before .before .before .before .before .before .before .before .before .before .before .before .before .before .before .before .before .before .before .before .before .before .before .before .before .before .before .before .before .before .before .before .before .before .before .shared-slice-known .given)) (words-of (c .before .before .before .before .before .before .before .before .before .before .before .before .before .before .before .before .before .before .before .before .before .before .before .before .before .before .before .before .before .before .before .before .before .before .slice-known3 .given)) t _ (begin .ensures) (entry-of .ensures .0) refl refl (layout .ensures) (fix .ensures) (run .ensures) in answered _ _ _ _ _ _ _ _ _ (start .pre) (bytes-of (c .before .before .before .before .before .before .before .before .before .before .before .before .before .before .before .before .before .before .before .before .before .before .before .before .before .before .before .before .before .before .before .before .before .before .before .before .before .before .shared-slice-known .given)) (words-of (c .before .before .before .before .before .before .before .before .before .before .before .before .before .before .before .before .before .before .before .before .before .before .before .before .before .before .before .before .before .before .before .before .before .before .slice-known3 .given)) t _ _ _ _ _ _ o (run .kept .1 .1 .1 .1 .1 .1 .1 .0) (run .kept .1 .1 .1 .1 .1 .1 .1 .1 .0) (wipe .ensures) (wipe2 .ensures) (sum-up .ensures)
+    let t : start .args .t < 4294967296 = omega (arith, start .good) in let o = ran-over _ _ _ _ _ _ _ _ _ (start .pre) (bytes-of (c .before .before .before .before .before .before .before .before .before .before .before .before .before .before .before .before .before .before .before .before .before .before .before .before .before .before .before .before .before .before .before .before .before .before .before .before .before .before .before .shared-slice-known .given)) (words-of (c .before .before .before .before .before .before .before .before .before .before .before .before .before .before .before .before .before .before .before .before .before .before .before .before .before .before .before .before .before .before .before .before .before .before .before .slice-known3 .given)) t _ (begin .ensures) (entry-of .ensures .0) refl refl (layout .ensures) (fix .ensures) (run .ensures) in answered _ _ _ _ _ _ _ _ _ (start .pre) (bytes-of (c .before .before .before .before .before .before .before .before .before .before .before .before .before .before .before .before .before .before .before .before .before .before .before .before .before .before .before .before .before .before .before .before .before .before .before .before .before .before .before .shared-slice-known .given)) (words-of (c .before .before .before .before .before .before .before .before .before .before .before .before .before .before .before .before .before .before .before .before .before .before .before .before .before .before .before .before .before .before .before .before .before .before .before .slice-known3 .given)) t _ _ _ _ _ _ o (run .kept .1 .1 .1 .1 .1 .1 .1 .1 .0) (run .kept .1 .1 .1 .1 .1 .1 .1 .1 .1 .0) (wipe .ensures) (wipe2 .ensures) (sum-up .ensures)
 
 pub run-accepted-spec : {M : Type 1} → statement M
 run-accepted-spec =
@@ -139,6 +144,7 @@ run-accepted-spec =
     begin-requires
     slice-aggregate-run
     slice-aggregate-run-2
+    slice-aggregate-run-3
     run-requires
     wipe-requires
     wipe-requires-2

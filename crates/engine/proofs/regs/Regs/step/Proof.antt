@@ -49,814 +49,874 @@ use Rattle.engine.proofs.regs.Regs.unpack.Reads as unpack-reads
 use Rattle.engine.proofs.regs.Regs.write.Reads as write-reads
 use Rattle.engine.proofs.stepping.stored.Reads as stored-reads
 
--- src/stepping.rt:54:13
+-- src/stepping.rt:97:13
 opcode-at-requires : tie.Need-opcode-at-requires
 opcode-at-requires c κs =
-    let start = c .before .before .before .before .before .before .before .before in
-    (start .pre .imaged, (start .pre .fixing .code, start .pre .pc))
-
--- src/stepping.rt:55:13
-a-at-requires : tie.Need-a-at-requires
-a-at-requires c κs =
     let start = c .before .before .before .before .before .before .before .before .before in
-    (start .pre .imaged, (start .pre .fixing .code, start .pre .pc))
+    (start .pre .0 .imaged, (start .pre .0 .fixing .code, start .pre .0 .pc))
 
--- src/stepping.rt:56:13
-b-at-requires : tie.Need-b-at-requires
-b-at-requires c κs =
-    let start = c .before .before .before .before .before .before .before .before .before .before in
-    (start .pre .imaged, (start .pre .fixing .code, start .pre .pc))
-
--- src/stepping.rt:57:13
-c-at-requires : tie.Need-c-at-requires
-c-at-requires c κs =
-    let start = c .before .before .before .before .before .before .before .before .before .before .before in
-    (start .pre .imaged, (start .pre .fixing .code, start .pre .pc))
-
--- src/stepping.rt:58:25
+-- src/stepping.rt:98:25
 sub-cost : tie.Need-sub-cost
 sub-cost c =
-    let opcode-at = c .before .before .before .opcode-at in
+    let opcode-at = c .opcode-at in
     omega (arith, opcode-at .ensures .1)
 
--- src/stepping.rt:58:20
+-- src/stepping.rt:98:20
 mul-cost : tie.Need-mul-cost
 mul-cost c =
-    let opcode-at = c .before .before .before .opcode-at in
+    let opcode-at = c .opcode-at in
     omega (arith, opcode-at .ensures .2)
 
--- src/stepping.rt:58:20
+-- src/stepping.rt:98:20
 shared-slice-read-cost : tie.Need-shared-slice-read-cost
 shared-slice-read-cost c =
-    let opcode-at = c .before .before .before .before .opcode-at in
-    let start = c .before .before .before .before .before .before .before .before .before .before .before .before .before in
-    omega (arith, opcode-at .ensures .1, opcode-at .ensures .2, start .pre .prices .long)
+    let start = c .before .before .before .before .before .before .before .before .before .before .before in
+    let opcode-at = c .before .opcode-at in
+    omega (arith, opcode-at .ensures .1, opcode-at .ensures .2, start .pre .0 .prices .long)
 
--- src/stepping.rt:58:20
+-- src/stepping.rt:98:20
 cast-cost : tie.Need-cast-cost
 cast-cost c =
-    let start = c .before .before .before .before .before .before .before .before .before .before .before .before .before in
-    let opcode-at = c .before .before .before .before .opcode-at in
-    omega (arith, price-most _ _ (start .pre .prices) (opcode-at .ensures .1) (opcode-at .ensures .2))
+    let start = c .before .before .before .before .before .before .before .before .before .before .before in
+    let opcode-at = c .before .opcode-at in
+    omega (arith, price-most _ _ (start .pre .0 .prices) (opcode-at .ensures .1) (opcode-at .ensures .2))
 
--- src/stepping.rt:61:18
+-- src/stepping.rt:108:18
 mk-none-requires : tie.Need-mk-none-requires
 mk-none-requires c κs =
-    let start = c .before .before .before .before .before .before .before .before .before .before .before .before .before .before .before in
-    (start .pre .fit, start .pre .stack-room)
+    let start = c .before .before .before .before .before .before .before .before .before .before .before .before .before in
+    (start .pre .0 .fit, start .pre .0 .stack-room)
 
--- src/stepping.rt:63:18
+-- src/stepping.rt:117:45
+a-at-requires : tie.Need-a-at-requires
+a-at-requires c κs =
+    let start = c .before .before .before .before .before .before .before .before .before .before .before .before in
+    (start .pre .0 .imaged, (start .pre .0 .fixing .code, start .pre .0 .pc))
+
+-- src/stepping.rt:117:18
 push-nulls-requires : tie.Need-push-nulls-requires
 push-nulls-requires c κs =
-    let start = c .before .before .before .before .before .before .before .before .before .before .before .before .before .before .before in
-    let a-at = c .before .before .before .before .before .a-at in
-    (start .pre .fit, (start .pre .stack-room, a-at .ensures .1))
+    let start = c .before .before .before .before .before .before .before .before .before .before .before .before .before .before in
+    let a-at = c .before .a-at in
+    (start .pre .0 .fit, (start .pre .0 .stack-room, a-at .ensures .1))
 
--- src/stepping.rt:64:18
+-- src/stepping.rt:118:38
+a-at-requires-2 : tie.Need-a-at-requires-2
+a-at-requires-2 c κs =
+    let start = c .before .before .before .before .before .before .before .before .before .before .before .before in
+    (start .pre .0 .imaged, (start .pre .0 .fixing .code, start .pre .0 .pc))
+
+-- src/stepping.rt:118:18
 pop-requires : tie.Need-pop-requires
 pop-requires c κs =
-    let start = c .before .before .before .before .before .before .before .before .before .before .before .before .before .before in
-    start .pre .fit
+    let start = c .before .before .before .before .before .before .before .before .before .before .before .before .before in
+    start .pre .0 .fit
 
--- src/stepping.rt:65:18
+-- src/stepping.rt:119:40
+a-at-requires-3 : tie.Need-a-at-requires-3
+a-at-requires-3 c κs =
+    let start = c .before .before .before .before .before .before .before .before .before .before .before .before in
+    (start .pre .0 .imaged, (start .pre .0 .fixing .code, start .pre .0 .pc))
+
+-- src/stepping.rt:119:18
 slide-requires : tie.Need-slide-requires
 slide-requires c κs =
-    let start = c .before .before .before .before .before .before .before .before .before .before .before .before .before .before .before in
-    (start .pre .fit, start .pre .stack-room)
+    let start = c .before .before .before .before .before .before .before .before .before .before .before .before .before .before in
+    (start .pre .0 .fit, start .pre .0 .stack-room)
 
--- src/stepping.rt:66:19
+-- src/stepping.rt:120:40
+a-at-requires-4 : tie.Need-a-at-requires-4
+a-at-requires-4 c κs =
+    let start = c .before .before .before .before .before .before .before .before .before .before .before .before in
+    (start .pre .0 .imaged, (start .pre .0 .fixing .code, start .pre .0 .pc))
+
+-- src/stepping.rt:120:19
 copy-requires : tie.Need-copy-requires
 copy-requires c κs =
-    let start = c .before .before .before .before .before .before .before .before .before .before .before .before .before .before .before in
-    (start .pre .fit, start .pre .stack-room)
+    let start = c .before .before .before .before .before .before .before .before .before .before .before .before .before .before in
+    (start .pre .0 .fit, start .pre .0 .stack-room)
 
--- src/stepping.rt:67:19
+-- src/stepping.rt:121:44
+a-at-requires-5 : tie.Need-a-at-requires-5
+a-at-requires-5 c κs =
+    let start = c .before .before .before .before .before .before .before .before .before .before .before .before in
+    (start .pre .0 .imaged, (start .pre .0 .fixing .code, start .pre .0 .pc))
+
+-- src/stepping.rt:121:19
 copy-arg-requires : tie.Need-copy-arg-requires
 copy-arg-requires c κs =
-    let start = c .before .before .before .before .before .before .before .before .before .before .before .before .before .before .before in
-    let a-at = c .before .before .before .before .before .a-at in
-    (start .pre .fit, (start .pre .stack-room, a-at .ensures .1))
+    let start = c .before .before .before .before .before .before .before .before .before .before .before .before .before .before in
+    let a-at5 = c .before .a-at5 in
+    (start .pre .0 .fit, (start .pre .0 .stack-room, a-at5 .ensures .1))
 
--- src/stepping.rt:68:19
+-- src/stepping.rt:122:48
+a-at-requires-6 : tie.Need-a-at-requires-6
+a-at-requires-6 c κs =
+    let start = c .before .before .before .before .before .before .before .before .before .before .before .before in
+    (start .pre .0 .imaged, (start .pre .0 .fixing .code, start .pre .0 .pc))
+
+-- src/stepping.rt:122:19
 create-frame-requires : tie.Need-create-frame-requires
 create-frame-requires c κs =
-    let start = c .before .before .before .before .before .before .before .before .before .before .before .before .before .before .before in
-    let a-at = c .before .before .before .before .before .a-at in
-    (start .pre .fit, (start .pre .stack-room, a-at .ensures .1))
+    let start = c .before .before .before .before .before .before .before .before .before .before .before .before .before .before in
+    let a-at6 = c .before .a-at6 in
+    (start .pre .0 .fit, (start .pre .0 .stack-room, a-at6 .ensures .1))
 
--- src/stepping.rt:69:19
+-- src/stepping.rt:123:44
+a-at-requires-7 : tie.Need-a-at-requires-7
+a-at-requires-7 c κs =
+    let start = c .before .before .before .before .before .before .before .before .before .before .before .before in
+    (start .pre .0 .imaged, (start .pre .0 .fixing .code, start .pre .0 .pc))
+
+-- src/stepping.rt:123:19
 push-var-requires : tie.Need-push-var-requires
 push-var-requires c κs =
-    let start = c .before .before .before .before .before .before .before .before .before .before .before .before .before .before .before in
-    (start .pre .fit, start .pre .stack-room)
+    let start = c .before .before .before .before .before .before .before .before .before .before .before .before .before .before in
+    (start .pre .0 .fit, start .pre .0 .stack-room)
 
--- src/stepping.rt:70:19
+-- src/stepping.rt:124:44
+a-at-requires-8 : tie.Need-a-at-requires-8
+a-at-requires-8 c κs =
+    let start = c .before .before .before .before .before .before .before .before .before .before .before .before in
+    (start .pre .0 .imaged, (start .pre .0 .fixing .code, start .pre .0 .pc))
+
+-- src/stepping.rt:124:19
 make-var-requires : tie.Need-make-var-requires
 make-var-requires c κs =
-    let start = c .before .before .before .before .before .before .before .before .before .before .before .before .before .before .before in
-    (start .pre .fit, start .pre .stack-room)
+    let start = c .before .before .before .before .before .before .before .before .before .before .before .before .before .before in
+    (start .pre .0 .fit, start .pre .0 .stack-room)
 
--- src/stepping.rt:71:19
+-- src/stepping.rt:125:40
+b-at-requires : tie.Need-b-at-requires
+b-at-requires c κs =
+    let start = c .before .before .before .before .before .before .before .before .before .before .before .before in
+    (start .pre .0 .imaged, (start .pre .0 .fixing .code, start .pre .0 .pc))
+
+-- src/stepping.rt:125:19
 goto-requires : tie.Need-goto-requires
 goto-requires c κs =
-    let start = c .before .before .before .before .before .before .before .before .before .before .before .before .before .before in
-    start .pre .fit
+    let start = c .before .before .before .before .before .before .before .before .before .before .before .before .before in
+    start .pre .0 .fit
 
--- src/stepping.rt:72:19
+-- src/stepping.rt:126:43
+b-at-requires-2 : tie.Need-b-at-requires-2
+b-at-requires-2 c κs =
+    let start = c .before .before .before .before .before .before .before .before .before .before .before .before in
+    (start .pre .0 .imaged, (start .pre .0 .fixing .code, start .pre .0 .pc))
+
+-- src/stepping.rt:126:19
 if-true-requires : tie.Need-if-true-requires
 if-true-requires c κs =
-    let start = c .before .before .before .before .before .before .before .before .before .before .before .before .before .before .before .before in
-    (start .pre .fit, (start .pre .stack-room, (start .pre .heap-room, start .pre .refs)))
+    let start = c .before .before .before .before .before .before .before .before .before .before .before .before .before .before .before in
+    (start .pre .0 .fit, (start .pre .0 .stack-room, (start .pre .0 .heap-room, start .pre .0 .refs)))
 
--- src/stepping.rt:73:43
+-- src/stepping.rt:128:21
+a-at-requires-9 : tie.Need-a-at-requires-9
+a-at-requires-9 c κs =
+    let start = c .before .before .before .before .before .before .before .before .before .before .before .before in
+    (start .pre .0 .imaged, (start .pre .0 .fixing .code, start .pre .0 .pc))
+
+-- src/stepping.rt:129:41
 entry-of-requires : tie.Need-entry-of-requires
 entry-of-requires c κs =
-    let start = c .before .before .before .before .before .before .before .before .before .before .before .before .before .before in
-    let a-at = c .before .before .before .before .a-at in
-    let opcode-at = c .before .before .before .before .before .opcode-at in
-    let match = c .match in
-    (start .pre .imaged, (placed-of (start .pre .located), subst (λ (x : ℕ). x < (program (start .args .image .now)) .rulesets) (sym (a-at .ensures .0)) (a-callee (program (start .args .image .now)) _ (start .pre .imaged .accepted .instruction _ (start .pre .pc)) (sym (opcode-at .ensures .0) ∙ (match .keys12)))))
+    let start = c .before .before .before .before .before .before .before .before .before .before .before .before .before in
+    let opcode-at = c .before .before .before .opcode-at in
+    let match = c .before .match in
+    let a-at9 = c .a-at9 in
+    (start .pre .0 .imaged, (placed-of (start .pre .0 .located), subst (λ (x : ℕ). x < (program (start .args .image .now)) .rulesets) (sym (a-at9 .ensures .0)) (a-callee (program (start .args .image .now)) _ (start .pre .0 .imaged .accepted .instruction _ (start .pre .0 .pc)) (sym (opcode-at .ensures .0) ∙ (match .keys12)))))
 
--- src/stepping.rt:73:19
+-- src/stepping.rt:129:17
 call-requires : tie.Need-call-requires
 call-requires c κs =
-    let start = c .before .before .before .before .before .before .before .before .before .before .before .before .before .before .before .before in
-    (start .pre .fit, start .pre .stack-room)
+    let start = c .before .before .before .before .before .before .before .before .before .before .before .before .before .before .before in
+    (start .pre .0 .fit, start .pre .0 .stack-room)
 
--- src/stepping.rt:74:19
+-- src/stepping.rt:131:19
 give-back-requires : tie.Need-give-back-requires
 give-back-requires c κs =
-    let start = c .before .before .before .before .before .before .before .before .before .before .before .before .before .before .before in
-    (start .pre .fit, (start .pre .stack-room, start .pre .framed))
+    let start = c .before .before .before .before .before .before .before .before .before .before .before .before .before in
+    (start .pre .0 .fit, (start .pre .0 .stack-room, start .pre .0 .framed))
 
--- src/stepping.rt:76:19
+-- src/stepping.rt:144:19
 start-matches-requires : tie.Need-start-matches-requires
 start-matches-requires c κs =
-    let start = c .before .before .before .before .before .before .before .before .before .before .before .before .before .before .before in
-    (start .pre .fit, (start .pre .imaged, (start .pre .located, (start .pre .order, start .pre .rs))))
+    let start = c .before .before .before .before .before .before .before .before .before .before .before .before .before in
+    (start .pre .0 .fit, (start .pre .0 .imaged, (start .pre .0 .located, (start .pre .0 .order, start .pre .0 .rs))))
 
--- src/stepping.rt:77:19
+-- src/stepping.rt:145:19
 match-rule-requires : tie.Need-match-rule-requires
 match-rule-requires c κs =
-    let start = c .before .before .before .before .before .before .before .before .before .before .before .before .before .before in
-    (start .pre .fit, (start .pre .imaged, (placed-of (start .pre .located), start .pre .rs)))
+    let start = c .before .before .before .before .before .before .before .before .before .before .before .before in
+    (start .pre .0 .fit, (start .pre .0 .imaged, (placed-of (start .pre .0 .located), start .pre .0 .rs)))
 
--- src/stepping.rt:78:19
+-- src/stepping.rt:146:19
 matched-rule-requires : tie.Need-matched-rule-requires
 matched-rule-requires c κs =
-    let start = c .before .before .before .before .before .before .before .before .before .before .before .before .before .before in
-    start .pre .fit
+    let start = c .before .before .before .before .before .before .before .before .before .before .before .before in
+    start .pre .0 .fit
 
--- src/stepping.rt:79:19
+-- src/stepping.rt:147:19
 match-none-requires : tie.Need-match-none-requires
 match-none-requires c κs =
-    let start = c .before .before .before .before .before .before .before .before .before .before .before .before .before .before in
-    start .pre .fit
+    let start = c .before .before .before .before .before .before .before .before .before .before .before .before in
+    start .pre .0 .fit
 
--- src/stepping.rt:81:19
+-- src/stepping.rt:164:19
 unpack-requires : tie.Need-unpack-requires
 unpack-requires c κs =
-    let start = c .before .before .before .before .before .before .before .before .before .before .before .before .before .before .before .before in
-    (start .pre .fit, (start .pre .stack-room, (start .pre .heap-room, (start .pre .refs, start .pre .blocks))))
+    let start = c .before .before .before .before .before .before .before .before .before .before .before .before .before .before in
+    (start .pre .0 .fit, (start .pre .0 .stack-room, (start .pre .0 .heap-room, (start .pre .0 .refs, start .pre .0 .blocks))))
 
--- src/stepping.rt:82:19
+-- src/stepping.rt:165:19
 reorder-requires : tie.Need-reorder-requires
 reorder-requires c κs =
-    let start = c .before .before .before .before .before .before .before .before .before .before .before .before .before .before .before in
-    (start .pre .fit, (start .pre .imaged, (start .pre .located, (start .pre .order, start .pre .rs))))
+    let start = c .before .before .before .before .before .before .before .before .before .before .before .before .before in
+    (start .pre .0 .fit, (start .pre .0 .imaged, (start .pre .0 .located, (start .pre .0 .order, start .pre .0 .rs))))
 
--- src/stepping.rt:83:19
+-- src/stepping.rt:166:46
+a-at-requires-10 : tie.Need-a-at-requires-10
+a-at-requires-10 c κs =
+    let start = c .before .before .before .before .before .before .before .before .before .before .before .before in
+    (start .pre .0 .imaged, (start .pre .0 .fixing .code, start .pre .0 .pc))
+
+-- src/stepping.rt:166:19
 copy-input-requires : tie.Need-copy-input-requires
 copy-input-requires c κs =
-    let start = c .before .before .before .before .before .before .before .before .before .before .before .before .before .before .before .before .before in
-    let opcode-at = c .before .before .before .before .before .before .before .before .opcode-at in
-    let match = c .before .before .before .match in
-    let a-at = c .before .before .before .before .before .before .before .a-at in
-    (start .pre .fit, (start .pre .stack-room, (start .pre .heap-room, wire-fits (program (start .args .image .now)) _ _ (start .pre .wires) (input-at (program (start .args .image .now)) _ (start .pre .imaged .accepted .instruction _ (start .pre .pc)) (sym (opcode-at .ensures .0) ∙ (match .keys20)) (a-at .ensures .0)))))
+    let start = c .before .before .before .before .before .before .before .before .before .before .before .before .before .before .before .before in
+    let opcode-at = c .before .before .before .before .before .before .opcode-at in
+    let match = c .before .before .before .before .match in
+    let a-at10 = c .before .before .before .a-at10 in
+    (start .pre .0 .fit, (start .pre .0 .stack-room, (start .pre .0 .heap-room, wire-fits (program (start .args .image .now)) _ _ (start .pre .0 .wires) (input-at (program (start .args .image .now)) _ (start .pre .0 .imaged .accepted .instruction _ (start .pre .0 .pc)) (sym (opcode-at .ensures .0) ∙ (match .keys20)) (a-at10 .ensures .0)))))
 
--- src/stepping.rt:85:19
+-- src/stepping.rt:168:19
 check-outputs-requires : tie.Need-check-outputs-requires
 check-outputs-requires c κs =
-    let start = c .before .before .before .before .before .before .before .before .before .before .before .before .before .before .before .before in
-    (start .pre .fit, (start .pre .stack-room, (omega (arith, start .pre .fixing .outputs, start .pre .imaged .accepted .outputs), omega (arith, start .pre .fixing .outputs, start .pre .fixing .inputs, start .pre .wires .long))))
+    let start = c .before .before .before .before .before .before .before .before .before .before .before .before .before .before in
+    (start .pre .0 .fit, (start .pre .0 .stack-room, (omega (arith, start .pre .0 .fixing .outputs, start .pre .0 .imaged .accepted .outputs), omega (arith, start .pre .0 .fixing .outputs, start .pre .0 .fixing .inputs, start .pre .0 .wires .long))))
 
--- src/stepping.rt:86:19
+-- src/stepping.rt:172:17
+a-at-requires-11 : tie.Need-a-at-requires-11
+a-at-requires-11 c κs =
+    let start = c .before .before .before .before .before .before .before .before .before .before .before .before in
+    (start .pre .0 .imaged, (start .pre .0 .fixing .code, start .pre .0 .pc))
+
+-- src/stepping.rt:169:19
 write-requires : tie.Need-write-requires
 write-requires c κs =
-    let start = c .before .before .before .before .before .before .before .before .before .before .before .before .before .before .before .before .before in
-    let opcode-at = c .before .before .before .before .before .before .before .before .opcode-at in
-    let match = c .before .before .before .match in
-    let a-at = c .before .before .before .before .before .before .before .a-at in
-    (start .pre .fit, (start .pre .stack-room, (start .pre .top, wire-fits (program (start .args .image .now)) _ _ (start .pre .wires) (output-at (program (start .args .image .now)) _ (start .pre .imaged .accepted .instruction _ (start .pre .pc)) (sym (opcode-at .ensures .0) ∙ (match .keys22)) (a-at .ensures .0) (start .pre .fixing .inputs)))))
+    let start = c .before .before .before .before .before .before .before .before .before .before .before .before .before .before .before .before in
+    let opcode-at = c .before .before .before .before .before .before .opcode-at in
+    let match = c .before .before .before .before .match in
+    let a-at11 = c .before .before .before .a-at11 in
+    (start .pre .0 .fit, (start .pre .0 .stack-room, (start .pre .0 .top, wire-fits (program (start .args .image .now)) _ _ (start .pre .0 .wires) (output-at (program (start .args .image .now)) _ (start .pre .0 .imaged .accepted .instruction _ (start .pre .0 .pc)) (sym (opcode-at .ensures .0) ∙ (match .keys22)) (a-at11 .ensures .0) (start .pre .0 .fixing .inputs)))))
 
--- src/stepping.rt:60:51
+-- src/stepping.rt:103:18
 mul-mk-atom : tie.Need-mul-mk-atom
 mul-mk-atom c =
-    let opcode-at = c .before .before .before .before .before .before .before .opcode-at in
+    let opcode-at = c .before .before .before .before .opcode-at in
     omega (arith, opcode-at .ensures .2)
 
--- src/stepping.rt:60:50
+-- src/stepping.rt:103:17
 cast-mk-atom : tie.Need-cast-mk-atom
 cast-mk-atom c =
-    let opcode-at = c .before .before .before .before .before .before .before .opcode-at in
+    let opcode-at = c .before .before .before .before .opcode-at in
     omega (arith, opcode-at .ensures .2)
 
--- src/stepping.rt:60:71
+-- src/stepping.rt:104:28
+c-at-requires : tie.Need-c-at-requires
+c-at-requires c κs =
+    let start = c .before .before .before .before .before .before .before .before .before .before .before .before .before .before in
+    (start .pre .0 .imaged, (start .pre .0 .fixing .code, start .pre .0 .pc))
+
+-- src/stepping.rt:104:17
 stored-requires : tie.Need-stored-requires
 stored-requires c κs = search needs
 
--- src/stepping.rt:60:26
+-- src/stepping.rt:100:26
 mk-atom-requires : tie.Need-mk-atom-requires
 mk-atom-requires c κs =
-    let start = c .before .before .before .before .before .before .before .before .before .before .before .before .before .before .before .before .before .before .before in
-    (start .pre .fit, (start .pre .stack-room, start .pre .heap-room))
+    let start = c .before .before .before .before .before .before .before .before .before .before .before .before .before .before .before .before .before .before in
+    (start .pre .0 .fit, (start .pre .0 .stack-room, start .pre .0 .heap-room))
 
--- src/stepping.rt:62:48
+-- src/stepping.rt:112:18
 mul-mk-block : tie.Need-mul-mk-block
 mul-mk-block c =
-    let opcode-at = c .before .before .before .before .before .before .before .before .opcode-at in
+    let opcode-at = c .before .before .before .before .before .opcode-at in
     omega (arith, opcode-at .ensures .2)
 
--- src/stepping.rt:62:48
+-- src/stepping.rt:112:37
+b-at-requires-3 : tie.Need-b-at-requires-3
+b-at-requires-3 c κs =
+    let start = c .before .before .before .before .before .before .before .before .before .before .before .before .before .before .before in
+    (start .pre .0 .imaged, (start .pre .0 .fixing .code, start .pre .0 .pc))
+
+-- src/stepping.rt:112:18
 add-mk-block : tie.Need-add-mk-block
 add-mk-block c =
-    let opcode-at = c .before .before .before .before .before .before .before .before .opcode-at in
-    let b-at = c .before .before .before .before .before .before .b-at in
-    omega (arith, opcode-at .ensures .2, b-at .ensures .1)
+    let opcode-at = c .before .before .before .before .before .before .opcode-at in
+    let b-at3 = c .b-at3 in
+    omega (arith, opcode-at .ensures .2, b-at3 .ensures .1)
 
--- src/stepping.rt:62:47
+-- src/stepping.rt:112:17
 cast-mk-block : tie.Need-cast-mk-block
 cast-mk-block c =
-    let opcode-at = c .before .before .before .before .before .before .before .before .opcode-at in
-    let b-at = c .before .before .before .before .before .before .b-at in
-    omega (arith, opcode-at .ensures .2, b-at .ensures .1)
+    let opcode-at = c .before .before .before .before .before .before .opcode-at in
+    let b-at3 = c .b-at3 in
+    omega (arith, opcode-at .ensures .2, b-at3 .ensures .1)
 
--- src/stepping.rt:62:22
+-- src/stepping.rt:113:17
+a-at-requires-12 : tie.Need-a-at-requires-12
+a-at-requires-12 c κs =
+    let start = c .before .before .before .before .before .before .before .before .before .before .before .before .before .before .before .before in
+    (start .pre .0 .imaged, (start .pre .0 .fixing .code, start .pre .0 .pc))
+
+-- src/stepping.rt:109:22
 mk-block-requires : tie.Need-mk-block-requires
 mk-block-requires c κs =
     let start = c .before .before .before .before .before .before .before .before .before .before .before .before .before .before .before .before .before .before .before in
-    let a-at = c .before .before .before .before .before .before .before .before .before .a-at in
-    (start .pre .fit, (start .pre .stack-room, (start .pre .heap-room, a-at .ensures .1)))
+    let a-at12 = c .before .before .a-at12 in
+    (start .pre .0 .fit, (start .pre .0 .stack-room, (start .pre .0 .heap-room, a-at12 .ensures .1)))
 
--- src/stepping.rt:75:58
+-- src/stepping.rt:136:17
+a-at-requires-13 : tie.Need-a-at-requires-13
+a-at-requires-13 c κs =
+    let start = c .before .before .before .before .before .before .before .before .before .before .before .before .before .before .before .before in
+    (start .pre .0 .imaged, (start .pre .0 .fixing .code, start .pre .0 .pc))
+
+-- src/stepping.rt:137:17
+b-at-requires-4 : tie.Need-b-at-requires-4
+b-at-requires-4 c κs =
+    let start = c .before .before .before .before .before .before .before .before .before .before .before .before .before .before .before .before .before in
+    (start .pre .0 .imaged, (start .pre .0 .fixing .code, start .pre .0 .pc))
+
+-- src/stepping.rt:137:17
 cast-apply : tie.Need-cast-apply
 cast-apply c =
-    let b-at = c .before .before .before .before .before .before .before .b-at in
-    omega (arith, b-at .ensures .1)
+    let b-at4 = c .b-at4 in
+    omega (arith, b-at4 .ensures .1)
 
--- src/stepping.rt:75:29
+-- src/stepping.rt:132:29
 apply-requires : tie.Need-apply-requires
 apply-requires c κs =
-    let if3 = c .before .before .before .if3 in
-    let match = c .before .before .before .before .before .before .match in
     let start = c .before .before .before .before .before .before .before .before .before .before .before .before .before .before .before .before .before .before .before .before in
-    let b-at = c .before .before .before .before .before .before .before .before .before .b-at in
-    let opcode-at = c .before .before .before .before .before .before .before .before .before .before .before .opcode-at in
-    let a-at = c .before .before .before .before .before .before .before .before .before .before .a-at in
-    let if4 = c .before .before .if4 in
-    let l = is-apply _ (if3 .left) (match .rest .0 .0 .0 .0 .0 .0 .0 .0 .0 .0 .0 .0 .0 .0 .0 .0 .0 .0 .0 .0 .1) (match .rest .0 .0 .0 .0 .0 .0 .0 .0 .0 .0 .0 .0 .0 .0 .0 .0 .0 .0 .0 .1) (match .rest .0 .0 .0 .0 .0 .0 .0 .0 .0 .0 .0 .0 .0 .0 .0 .0 .0 .0 .1) (match .rest .0 .0 .0 .0 .0 .0 .0 .0 .0 .0 .0 .0 .0 .0 .0 .0 .0 .1) (match .rest .0 .0 .0 .0 .0 .0 .0 .0 .0 .0 .0 .0 .0 .0 .0 .0 .1) (match .rest .0 .0 .0 .0 .0 .0 .0 .0 .0 .0 .0 .0 .0 .0 .0 .1) (match .rest .0 .0 .0 .0 .0 .0 .0 .0 .0 .0 .0 .0 .0 .0 .1) (match .rest .0 .0 .0 .0 .0 .0 .0 .0 .0 .0 .0 .0 .0 .1) (match .rest .0 .0 .0 .0 .0 .0 .0 .0 .0 .0 .0 .0 .1) (match .rest .0 .0 .0 .0 .0 .0 .0 .0 .0 .0 .0 .1) (match .rest .0 .0 .0 .0 .0 .0 .0 .0 .0 .0 .1) (match .rest .0 .0 .0 .0 .0 .0 .0 .0 .0 .1) in (start .pre .fit, (start .pre .stack-room, (start .pre .heap-room, (start .pre .refs, (b-at .ensures .1, (price-most _ _ (start .pre .prices) (opcode-at .ensures .1) (opcode-at .ensures .2), applies-at (program (start .args .image .now)) _ (start .pre .imaged .accepted .instruction _ (start .pre .pc)) (opcode-at .ensures .0) (a-at .ensures .0) l (if4 .taken)))))))
+    let opcode-at = c .before .before .before .before .before .before .before .before .before .before .opcode-at in
+    let match = c .before .before .before .before .before .before .before .before .match in
+    let if3 = c .before .before .before .before .before .if3 in
+    let if4 = c .before .before .before .before .if4 in
+    let a-at13 = c .before .before .before .a-at13 in
+    let b-at4 = c .before .before .b-at4 in
+    let l = is-apply _ (if3 .left) (match .rest .0 .0 .0 .0 .0 .0 .0 .0 .0 .0 .0 .0 .0 .0 .0 .0 .0 .0 .0 .0 .1) (match .rest .0 .0 .0 .0 .0 .0 .0 .0 .0 .0 .0 .0 .0 .0 .0 .0 .0 .0 .0 .1) (match .rest .0 .0 .0 .0 .0 .0 .0 .0 .0 .0 .0 .0 .0 .0 .0 .0 .0 .0 .1) (match .rest .0 .0 .0 .0 .0 .0 .0 .0 .0 .0 .0 .0 .0 .0 .0 .0 .0 .1) (match .rest .0 .0 .0 .0 .0 .0 .0 .0 .0 .0 .0 .0 .0 .0 .0 .0 .1) (match .rest .0 .0 .0 .0 .0 .0 .0 .0 .0 .0 .0 .0 .0 .0 .0 .1) (match .rest .0 .0 .0 .0 .0 .0 .0 .0 .0 .0 .0 .0 .0 .0 .1) (match .rest .0 .0 .0 .0 .0 .0 .0 .0 .0 .0 .0 .0 .0 .1) (match .rest .0 .0 .0 .0 .0 .0 .0 .0 .0 .0 .0 .0 .1) (match .rest .0 .0 .0 .0 .0 .0 .0 .0 .0 .0 .0 .1) (match .rest .0 .0 .0 .0 .0 .0 .0 .0 .0 .0 .1) (match .rest .0 .0 .0 .0 .0 .0 .0 .0 .0 .1) in (start .pre .0 .fit, (start .pre .0 .stack-room, (start .pre .0 .heap-room, (start .pre .0 .refs, (b-at4 .ensures .1, (price-most _ _ (start .pre .0 .prices) (opcode-at .ensures .1) (opcode-at .ensures .2), (applies-at (program (start .args .image .now)) _ (start .pre .0 .imaged .accepted .instruction _ (start .pre .0 .pc)) (opcode-at .ensures .0) (a-at13 .ensures .0) l (if4 .taken), start .pre .1)))))))
 
--- src/stepping.rt:80:56
+-- src/stepping.rt:152:17
+a-at-requires-14 : tie.Need-a-at-requires-14
+a-at-requires-14 c κs =
+    let start = c .before .before .before .before .before .before .before .before .before .before .before .before .before .before .before .before .before in
+    (start .pre .0 .imaged, (start .pre .0 .fixing .code, start .pre .0 .pc))
+
+-- src/stepping.rt:153:17
+b-at-requires-5 : tie.Need-b-at-requires-5
+b-at-requires-5 c κs =
+    let start = c .before .before .before .before .before .before .before .before .before .before .before .before .before .before .before .before .before .before in
+    (start .pre .0 .imaged, (start .pre .0 .fixing .code, start .pre .0 .pc))
+
+-- src/stepping.rt:153:17
 cast-matching : tie.Need-cast-matching
 cast-matching c =
-    let b-at = c .before .before .before .before .before .before .before .before .b-at in
-    omega (arith, b-at .ensures .1)
+    let b-at5 = c .b-at5 in
+    omega (arith, b-at5 .ensures .1)
 
--- src/stepping.rt:80:24
+-- src/stepping.rt:154:17
+c-at-requires-2 : tie.Need-c-at-requires-2
+c-at-requires-2 c κs =
+    let start = c .before .before .before .before .before .before .before .before .before .before .before .before .before .before .before .before .before .before .before in
+    (start .pre .0 .imaged, (start .pre .0 .fixing .code, start .pre .0 .pc))
+
+-- src/stepping.rt:148:24
 matching-requires : tie.Need-matching-requires
 matching-requires c κs =
-    let start = c .before .before .before .before .before .before .before .before .before .before .before .before .before .before .before .before .before .before .before .before .before .before .before in
-    let if4 = c .before .before .before .before .before .if4 in
-    let match = c .before .before .before .before .before .before .before .before .before .match in
-    let if5 = c .before .before .before .before .if5 in
-    let a-at = c .before .before .before .before .before .before .before .before .before .before .before .before .before .a-at in
-    let b-at = c .before .before .before .before .before .before .before .before .before .before .before .before .b-at in
-    (start .pre .fit, ((is-match _ (if4 .left) (match .rest .0 .0 .0 .0 .0 .0 .0 .0 .1) (match .rest .0 .0 .0 .0 .0 .0 .0 .1) (match .rest .0 .0 .0 .0 .0 .0 .1) (match .rest .0 .0 .0 .0 .0 .1), omega (arith, if5 .taken), a-at .ensures .1, b-at .ensures .1), (start .pre .imaged, (start .pre .located, (start .pre .order, (start .pre .rs, ((start .pre .stack-room, start .pre .heap-room), (start .pre .refs, (start .pre .fixing .inputs, omega (arith, start .pre .fixing .inputs, start .pre .wires .long))))))))))
+    let start = c .before .before .before .before .before .before .before .before .before .before .before .before .before .before .before .before .before .before .before .before .before .before .before .before in
+    let match = c .before .before .before .before .before .before .before .before .before .before .before .before .match in
+    let if4 = c .before .before .before .before .before .before .before .before .if4 in
+    let if5 = c .before .before .before .before .before .before .before .if5 in
+    let a-at14 = c .before .before .before .before .before .before .a-at14 in
+    let b-at5 = c .before .before .before .before .before .b-at5 in
+    (start .pre .0 .fit, ((is-match _ (if4 .left) (match .rest .0 .0 .0 .0 .0 .0 .0 .0 .1) (match .rest .0 .0 .0 .0 .0 .0 .0 .1) (match .rest .0 .0 .0 .0 .0 .0 .1) (match .rest .0 .0 .0 .0 .0 .1), omega (arith, if5 .taken), a-at14 .ensures .1, b-at5 .ensures .1), (start .pre .0 .imaged, (start .pre .0 .located, (start .pre .0 .order, (start .pre .0 .rs, ((start .pre .0 .stack-room, start .pre .0 .heap-room), (start .pre .0 .refs, (start .pre .0 .fixing .inputs, omega (arith, start .pre .0 .fixing .inputs, start .pre .0 .wires .long))))))))))
 
--- src/stepping.rt:84:24
+-- src/stepping.rt:167:48
+a-at-requires-15 : tie.Need-a-at-requires-15
+a-at-requires-15 c κs =
+    let start = c .before .before .before .before .before .before .before .before .before .before .before .before .before .before .before .before .before .before in
+    (start .pre .0 .imaged, (start .pre .0 .fixing .code, start .pre .0 .pc))
+
+-- src/stepping.rt:167:24
 consume-requires : tie.Need-consume-requires
 consume-requires c κs =
-    let if5 = c .before .before .if5 in
-    let match = c .before .before .before .before .before .before .before .match in
-    let start = c .before .before .before .before .before .before .before .before .before .before .before .before .before .before .before .before .before .before .before .before .before in
-    let opcode-at = c .before .before .before .before .before .before .before .before .before .before .before .before .opcode-at in
-    let a-at = c .before .before .before .before .before .before .before .before .before .before .before .a-at in
-    let if6 = c .before .if6 in
-    let l = is-consume _ (if5 .left) (match .rest .0 .0 .0 .0 .1) (match .rest .0 .0 .0 .1) (match .rest .0 .0 .1) in (start .pre .fit, wire-room (program (start .args .image .now)) _ _ (start .pre .wires) (consuming-at (program (start .args .image .now)) _ (start .pre .imaged .accepted .instruction _ (start .pre .pc)) (opcode-at .ensures .0) (a-at .ensures .0) l (if6 .taken)))
+    let start = c .before .before .before .before .before .before .before .before .before .before .before .before .before .before .before .before .before .before .before .before in
+    let opcode-at = c .before .before .before .before .before .before .before .before .before .before .opcode-at in
+    let match = c .before .before .before .before .before .before .before .before .match in
+    let if5 = c .before .before .before .if5 in
+    let if6 = c .before .before .if6 in
+    let a-at15 = c .before .a-at15 in
+    let l = is-consume _ (if5 .left) (match .rest .0 .0 .0 .0 .1) (match .rest .0 .0 .0 .1) (match .rest .0 .0 .1) in (start .pre .0 .fit, wire-room (program (start .args .image .now)) _ _ (start .pre .0 .wires) (consuming-at (program (start .args .image .now)) _ (start .pre .0 .imaged .accepted .instruction _ (start .pre .0 .pc)) (opcode-at .ensures .0) (a-at15 .ensures .0) l (if6 .taken)))
 
--- src/stepping.rt:87:18
+-- src/stepping.rt:178:18
 schedule-requires : tie.Need-schedule-requires
 schedule-requires c κs =
-    let start = c .before .before .before .before .before .before .before .before .before .before .before .before .before .before .before in
-    start .pre .fit
+    let start = c .before .before .before .before .before .before .before .before .before .before .before .before .before in
+    start .pre .0 .fit
 
--- src/stepping.rt:36:5
+-- src/stepping.rt:77:5
 same-length : tie.Need-same-length
 same-length c = search needs
 
--- src/stepping.rt:36:5
+-- src/stepping.rt:77:5
 returns : tie.Need-returns
 returns c =
-    let start = c .before .before .before .before .before .before .before .before .before .before .before .before .before .before .before .before .before .before in
-    let opcode-at = c .before .before .before .before .before .before .before .before .before .opcode-at in
-    let a-at = c .before .before .before .before .before .before .before .before .a-at in
-    let b-at = c .before .before .before .before .before .before .before .b-at in
-    let c-at = c .before .before .before .before .before .before .c-at in
+    let start = c .before .before .before .before .before .before .before .before .before .before .before .before .before .before .before .before in
+    let opcode-at = c .before .before .before .before .before .before .opcode-at in
     let match = c .before .before .before .before .match in
     let mk-none = c .before .before .mk-none in
-    arm (program (start .args .image .now)) _ _ _ _ _ _ _ (opcode-at .ensures .0) (a-at .ensures .0) (b-at .ensures .0) (c-at .ensures) (price-is _ _ _ (omega (arith, opcode-at .ensures .1, opcode-at .ensures .2, start .pre .prices .long)) refl) (λ s. op-4 _ _ _ _ _ s (match .keys1)) (mk-none .ensures _ _ _)
+    arm (program (start .args .image .now)) _ _ _ _ _ _ _ (opcode-at .ensures .0) refl refl refl (price-is _ _ _ (omega (arith, opcode-at .ensures .1, opcode-at .ensures .2, start .pre .0 .prices .long)) refl) (λ s. op-4 _ _ _ _ _ s (match .keys1)) (mk-none .ensures _ _ _)
 
--- src/stepping.rt:36:5
+-- src/stepping.rt:77:5
 same-length-2 : tie.Need-same-length-2
 same-length-2 c = search needs
 
--- src/stepping.rt:36:5
+-- src/stepping.rt:77:5
 returns-2 : tie.Need-returns-2
 returns-2 c =
-    let start = c .before .before .before .before .before .before .before .before .before .before .before .before .before .before .before .before .before .before in
-    let opcode-at = c .before .before .before .before .before .before .before .before .before .opcode-at in
-    let a-at = c .before .before .before .before .before .before .before .before .a-at in
-    let b-at = c .before .before .before .before .before .before .before .b-at in
-    let c-at = c .before .before .before .before .before .before .c-at in
-    let match = c .before .before .before .before .match in
+    let start = c .before .before .before .before .before .before .before .before .before .before .before .before .before .before .before .before .before in
+    let opcode-at = c .before .before .before .before .before .before .before .opcode-at in
+    let match = c .before .before .before .before .before .match in
+    let a-at = c .before .before .before .before .a-at in
     let push-nulls = c .before .before .push-nulls in
-    arm (program (start .args .image .now)) _ _ _ _ _ _ _ (opcode-at .ensures .0) (a-at .ensures .0) (b-at .ensures .0) (c-at .ensures) (price-is _ _ _ (omega (arith, opcode-at .ensures .1, opcode-at .ensures .2, start .pre .prices .long)) refl) (λ s. op-7 _ _ _ _ _ s (match .keys2)) (push-nulls .ensures _ _ _)
+    arm (program (start .args .image .now)) _ _ _ _ _ _ _ (opcode-at .ensures .0) (a-at .ensures .0) refl refl (price-is _ _ _ (omega (arith, opcode-at .ensures .1, opcode-at .ensures .2, start .pre .0 .prices .long)) refl) (λ s. op-7 _ _ _ _ _ s (match .keys2)) (push-nulls .ensures _ _ _)
 
--- src/stepping.rt:36:5
+-- src/stepping.rt:77:5
 returns-3 : tie.Need-returns-3
 returns-3 c =
-    let start = c .before .before .before .before .before .before .before .before .before .before .before .before .before .before .before in
-    let opcode-at = c .before .before .before .before .before .before .opcode-at in
-    let a-at = c .before .before .before .before .before .a-at in
-    let b-at = c .before .before .before .before .b-at in
-    let c-at = c .before .before .before .c-at in
-    let match = c .before .match in
+    let start = c .before .before .before .before .before .before .before .before .before .before .before .before .before .before in
+    let opcode-at = c .before .before .before .before .opcode-at in
+    let match = c .before .before .match in
+    let a-at2 = c .before .a-at2 in
     let pop = c .pop in
-    arm (program (start .args .image .now)) _ _ _ _ _ _ _ (opcode-at .ensures .0) (a-at .ensures .0) (b-at .ensures .0) (c-at .ensures) (price-is _ _ _ (omega (arith, opcode-at .ensures .1, opcode-at .ensures .2, start .pre .prices .long)) refl) (λ s. op-8 _ _ _ _ _ s (match .keys3)) (pop .ensures _ _ _ _)
+    arm (program (start .args .image .now)) _ _ _ _ _ _ _ (opcode-at .ensures .0) (a-at2 .ensures .0) refl refl (price-is _ _ _ (omega (arith, opcode-at .ensures .1, opcode-at .ensures .2, start .pre .0 .prices .long)) refl) (λ s. op-8 _ _ _ _ _ s (match .keys3)) (pop .ensures _ _ _ _)
 
--- src/stepping.rt:36:5
+-- src/stepping.rt:77:5
 same-length-3 : tie.Need-same-length-3
 same-length-3 c = search needs
 
--- src/stepping.rt:36:5
+-- src/stepping.rt:77:5
 returns-4 : tie.Need-returns-4
 returns-4 c =
-    let start = c .before .before .before .before .before .before .before .before .before .before .before .before .before .before .before .before .before .before in
-    let opcode-at = c .before .before .before .before .before .before .before .before .before .opcode-at in
-    let a-at = c .before .before .before .before .before .before .before .before .a-at in
-    let b-at = c .before .before .before .before .before .before .before .b-at in
-    let c-at = c .before .before .before .before .before .before .c-at in
-    let match = c .before .before .before .before .match in
+    let start = c .before .before .before .before .before .before .before .before .before .before .before .before .before .before .before .before .before in
+    let opcode-at = c .before .before .before .before .before .before .before .opcode-at in
+    let match = c .before .before .before .before .before .match in
+    let a-at3 = c .before .before .before .before .a-at3 in
     let slide = c .before .before .slide in
-    arm (program (start .args .image .now)) _ _ _ _ _ _ _ (opcode-at .ensures .0) (a-at .ensures .0) (b-at .ensures .0) (c-at .ensures) (price-is _ _ _ (omega (arith, opcode-at .ensures .1, opcode-at .ensures .2, start .pre .prices .long)) refl) (λ s. op-9 _ _ _ _ _ s (match .keys4)) (slide .ensures _ _ _)
+    arm (program (start .args .image .now)) _ _ _ _ _ _ _ (opcode-at .ensures .0) (a-at3 .ensures .0) refl refl (price-is _ _ _ (omega (arith, opcode-at .ensures .1, opcode-at .ensures .2, start .pre .0 .prices .long)) refl) (λ s. op-9 _ _ _ _ _ s (match .keys4)) (slide .ensures _ _ _)
 
--- src/stepping.rt:36:5
+-- src/stepping.rt:77:5
 same-length-4 : tie.Need-same-length-4
 same-length-4 c = search needs
 
--- src/stepping.rt:36:5
+-- src/stepping.rt:77:5
 returns-5 : tie.Need-returns-5
 returns-5 c =
-    let start = c .before .before .before .before .before .before .before .before .before .before .before .before .before .before .before .before .before .before in
-    let opcode-at = c .before .before .before .before .before .before .before .before .before .opcode-at in
-    let a-at = c .before .before .before .before .before .before .before .before .a-at in
-    let b-at = c .before .before .before .before .before .before .before .b-at in
-    let c-at = c .before .before .before .before .before .before .c-at in
-    let match = c .before .before .before .before .match in
+    let start = c .before .before .before .before .before .before .before .before .before .before .before .before .before .before .before .before .before in
+    let opcode-at = c .before .before .before .before .before .before .before .opcode-at in
+    let match = c .before .before .before .before .before .match in
+    let a-at4 = c .before .before .before .before .a-at4 in
     let copy = c .before .before .copy in
-    arm (program (start .args .image .now)) _ _ _ _ _ _ _ (opcode-at .ensures .0) (a-at .ensures .0) (b-at .ensures .0) (c-at .ensures) (price-is _ _ _ (omega (arith, opcode-at .ensures .1, opcode-at .ensures .2, start .pre .prices .long)) refl) (λ s. op-10 _ _ _ _ _ s (match .keys5)) (copy .ensures _ _ _)
+    arm (program (start .args .image .now)) _ _ _ _ _ _ _ (opcode-at .ensures .0) (a-at4 .ensures .0) refl refl (price-is _ _ _ (omega (arith, opcode-at .ensures .1, opcode-at .ensures .2, start .pre .0 .prices .long)) refl) (λ s. op-10 _ _ _ _ _ s (match .keys5)) (copy .ensures _ _ _)
 
--- src/stepping.rt:36:5
+-- src/stepping.rt:77:5
 same-length-5 : tie.Need-same-length-5
 same-length-5 c = search needs
 
--- src/stepping.rt:36:5
+-- src/stepping.rt:77:5
 returns-6 : tie.Need-returns-6
 returns-6 c =
-    let start = c .before .before .before .before .before .before .before .before .before .before .before .before .before .before .before .before .before .before in
-    let opcode-at = c .before .before .before .before .before .before .before .before .before .opcode-at in
-    let a-at = c .before .before .before .before .before .before .before .before .a-at in
-    let b-at = c .before .before .before .before .before .before .before .b-at in
-    let c-at = c .before .before .before .before .before .before .c-at in
-    let match = c .before .before .before .before .match in
-    arm (program (start .args .image .now)) _ _ _ _ _ _ _ (opcode-at .ensures .0) (a-at .ensures .0) (b-at .ensures .0) (c-at .ensures) (price-is _ _ _ (omega (arith, opcode-at .ensures .1, opcode-at .ensures .2, start .pre .prices .long)) refl) (λ s. op-11 _ _ _ _ _ s (match .keys6)) ((c .before .before .copy-arg2) .ensures _ _ _)
+    let start = c .before .before .before .before .before .before .before .before .before .before .before .before .before .before .before .before .before in
+    let opcode-at = c .before .before .before .before .before .before .before .opcode-at in
+    let match = c .before .before .before .before .before .match in
+    let a-at5 = c .before .before .before .before .a-at5 in
+    arm (program (start .args .image .now)) _ _ _ _ _ _ _ (opcode-at .ensures .0) (a-at5 .ensures .0) refl refl (price-is _ _ _ (omega (arith, opcode-at .ensures .1, opcode-at .ensures .2, start .pre .0 .prices .long)) refl) (λ s. op-11 _ _ _ _ _ s (match .keys6)) ((c .before .before .copy-arg2) .ensures _ _ _)
 
--- src/stepping.rt:36:5
+-- src/stepping.rt:77:5
 same-length-6 : tie.Need-same-length-6
 same-length-6 c = search needs
 
--- src/stepping.rt:36:5
+-- src/stepping.rt:77:5
 returns-7 : tie.Need-returns-7
 returns-7 c =
-    let start = c .before .before .before .before .before .before .before .before .before .before .before .before .before .before .before .before .before .before in
-    let opcode-at = c .before .before .before .before .before .before .before .before .before .opcode-at in
-    let a-at = c .before .before .before .before .before .before .before .before .a-at in
-    let b-at = c .before .before .before .before .before .before .before .b-at in
-    let c-at = c .before .before .before .before .before .before .c-at in
-    let match = c .before .before .before .before .match in
+    let start = c .before .before .before .before .before .before .before .before .before .before .before .before .before .before .before .before .before in
+    let opcode-at = c .before .before .before .before .before .before .before .opcode-at in
+    let match = c .before .before .before .before .before .match in
+    let a-at6 = c .before .before .before .before .a-at6 in
     let create-frame = c .before .before .create-frame in
-    arm (program (start .args .image .now)) _ _ _ _ _ _ _ (opcode-at .ensures .0) (a-at .ensures .0) (b-at .ensures .0) (c-at .ensures) (price-is _ _ _ (omega (arith, opcode-at .ensures .1, opcode-at .ensures .2, start .pre .prices .long)) refl) (λ s. op-12 _ _ _ _ _ s (match .keys7)) (create-frame .ensures _ _ _)
+    arm (program (start .args .image .now)) _ _ _ _ _ _ _ (opcode-at .ensures .0) (a-at6 .ensures .0) refl refl (price-is _ _ _ (omega (arith, opcode-at .ensures .1, opcode-at .ensures .2, start .pre .0 .prices .long)) refl) (λ s. op-12 _ _ _ _ _ s (match .keys7)) (create-frame .ensures _ _ _)
 
--- src/stepping.rt:36:5
+-- src/stepping.rt:77:5
 same-length-7 : tie.Need-same-length-7
 same-length-7 c = search needs
 
--- src/stepping.rt:36:5
+-- src/stepping.rt:77:5
 returns-8 : tie.Need-returns-8
 returns-8 c =
-    let start = c .before .before .before .before .before .before .before .before .before .before .before .before .before .before .before .before .before .before in
-    let opcode-at = c .before .before .before .before .before .before .before .before .before .opcode-at in
-    let a-at = c .before .before .before .before .before .before .before .before .a-at in
-    let b-at = c .before .before .before .before .before .before .before .b-at in
-    let c-at = c .before .before .before .before .before .before .c-at in
-    let match = c .before .before .before .before .match in
+    let start = c .before .before .before .before .before .before .before .before .before .before .before .before .before .before .before .before .before in
+    let opcode-at = c .before .before .before .before .before .before .before .opcode-at in
+    let match = c .before .before .before .before .before .match in
+    let a-at7 = c .before .before .before .before .a-at7 in
     let push-var = c .before .before .push-var in
-    arm (program (start .args .image .now)) _ _ _ _ _ _ _ (opcode-at .ensures .0) (a-at .ensures .0) (b-at .ensures .0) (c-at .ensures) (price-is _ _ _ (omega (arith, opcode-at .ensures .1, opcode-at .ensures .2, start .pre .prices .long)) refl) (λ s. op-13 _ _ _ _ _ s (match .keys8)) (push-var .ensures _ _ _)
+    arm (program (start .args .image .now)) _ _ _ _ _ _ _ (opcode-at .ensures .0) (a-at7 .ensures .0) refl refl (price-is _ _ _ (omega (arith, opcode-at .ensures .1, opcode-at .ensures .2, start .pre .0 .prices .long)) refl) (λ s. op-13 _ _ _ _ _ s (match .keys8)) (push-var .ensures _ _ _)
 
--- src/stepping.rt:36:5
+-- src/stepping.rt:77:5
 same-length-8 : tie.Need-same-length-8
 same-length-8 c = search needs
 
--- src/stepping.rt:36:5
+-- src/stepping.rt:77:5
 returns-9 : tie.Need-returns-9
 returns-9 c =
-    let start = c .before .before .before .before .before .before .before .before .before .before .before .before .before .before .before .before .before .before in
-    let opcode-at = c .before .before .before .before .before .before .before .before .before .opcode-at in
-    let a-at = c .before .before .before .before .before .before .before .before .a-at in
-    let b-at = c .before .before .before .before .before .before .before .b-at in
-    let c-at = c .before .before .before .before .before .before .c-at in
-    let match = c .before .before .before .before .match in
+    let start = c .before .before .before .before .before .before .before .before .before .before .before .before .before .before .before .before .before in
+    let opcode-at = c .before .before .before .before .before .before .before .opcode-at in
+    let match = c .before .before .before .before .before .match in
+    let a-at8 = c .before .before .before .before .a-at8 in
     let make-var = c .before .before .make-var in
-    arm (program (start .args .image .now)) _ _ _ _ _ _ _ (opcode-at .ensures .0) (a-at .ensures .0) (b-at .ensures .0) (c-at .ensures) (price-is _ _ _ (omega (arith, opcode-at .ensures .1, opcode-at .ensures .2, start .pre .prices .long)) refl) (λ s. op-14 _ _ _ _ _ s (match .keys9)) (make-var .ensures _ _ _)
+    arm (program (start .args .image .now)) _ _ _ _ _ _ _ (opcode-at .ensures .0) (a-at8 .ensures .0) refl refl (price-is _ _ _ (omega (arith, opcode-at .ensures .1, opcode-at .ensures .2, start .pre .0 .prices .long)) refl) (λ s. op-14 _ _ _ _ _ s (match .keys9)) (make-var .ensures _ _ _)
 
--- src/stepping.rt:36:5
+-- src/stepping.rt:77:5
 returns-10 : tie.Need-returns-10
 returns-10 c =
-    let start = c .before .before .before .before .before .before .before .before .before .before .before .before .before .before .before in
-    let opcode-at = c .before .before .before .before .before .before .opcode-at in
-    let a-at = c .before .before .before .before .before .a-at in
-    let b-at = c .before .before .before .before .b-at in
-    let c-at = c .before .before .before .c-at in
-    let match = c .before .match in
+    let start = c .before .before .before .before .before .before .before .before .before .before .before .before .before .before in
+    let opcode-at = c .before .before .before .before .opcode-at in
+    let match = c .before .before .match in
+    let b-at = c .before .b-at in
     let goto = c .goto in
-    arm (program (start .args .image .now)) _ _ _ _ _ _ _ (opcode-at .ensures .0) (a-at .ensures .0) (b-at .ensures .0) (c-at .ensures) (price-is _ _ _ (omega (arith, opcode-at .ensures .1, opcode-at .ensures .2, start .pre .prices .long)) refl) (λ s. op-15 _ _ _ _ _ s (match .keys10)) (goto .ensures _ _ _ _)
+    arm (program (start .args .image .now)) _ _ _ _ _ _ _ (opcode-at .ensures .0) refl (b-at .ensures .0) refl (price-is _ _ _ (omega (arith, opcode-at .ensures .1, opcode-at .ensures .2, start .pre .0 .prices .long)) refl) (λ s. op-15 _ _ _ _ _ s (match .keys10)) (goto .ensures _ _ _ _)
 
--- src/stepping.rt:36:5
+-- src/stepping.rt:77:5
 same-length-9 : tie.Need-same-length-9
 same-length-9 c = search needs
 
--- src/stepping.rt:36:5
+-- src/stepping.rt:77:5
 same-length-10 : tie.Need-same-length-10
 same-length-10 c = search needs
 
--- src/stepping.rt:36:5
+-- src/stepping.rt:77:5
 returns-11 : tie.Need-returns-11
 returns-11 c =
-    let start = c .before .before .before .before .before .before .before .before .before .before .before .before .before .before .before .before .before in
-    let opcode-at = c .before .before .before .before .before .before .before .before .opcode-at in
-    let a-at = c .before .before .before .before .before .before .before .a-at in
-    let b-at = c .before .before .before .before .before .before .b-at in
-    let c-at = c .before .before .before .before .before .c-at in
-    let match = c .before .before .before .match in
+    let start = c .before .before .before .before .before .before .before .before .before .before .before .before .before .before .before .before in
+    let opcode-at = c .before .before .before .before .before .before .opcode-at in
+    let match = c .before .before .before .before .match in
+    let b-at2 = c .before .before .before .b-at2 in
     let if-true = c .if-true in
-    arm (program (start .args .image .now)) _ _ _ _ _ _ _ (opcode-at .ensures .0) (a-at .ensures .0) (b-at .ensures .0) (c-at .ensures) (price-is _ _ _ (omega (arith, opcode-at .ensures .1, opcode-at .ensures .2, start .pre .prices .long)) refl) (λ s. op-16 _ _ _ _ _ s (match .keys11)) (if-true .ensures _ _)
+    arm (program (start .args .image .now)) _ _ _ _ _ _ _ (opcode-at .ensures .0) refl (b-at2 .ensures .0) refl (price-is _ _ _ (omega (arith, opcode-at .ensures .1, opcode-at .ensures .2, start .pre .0 .prices .long)) refl) (λ s. op-16 _ _ _ _ _ s (match .keys11)) (if-true .ensures _ _)
 
--- src/stepping.rt:36:5
+-- src/stepping.rt:77:5
 same-length-11 : tie.Need-same-length-11
 same-length-11 c = search needs
 
--- src/stepping.rt:36:5
+-- src/stepping.rt:77:5
 returns-12 : tie.Need-returns-12
 returns-12 c =
-    let start = c .before .before .before .before .before .before .before .before .before .before .before .before .before .before .before .before .before .before .before in
-    let opcode-at = c .before .before .before .before .before .before .before .before .before .before .opcode-at in
-    let a-at = c .before .before .before .before .before .before .before .before .before .a-at in
-    let b-at = c .before .before .before .before .before .before .before .before .b-at in
-    let c-at = c .before .before .before .before .before .before .before .c-at in
-    let match = c .before .before .before .before .before .match in
-    let call = c .before .before .call in
+    let start = c .before .before .before .before .before .before .before .before .before .before .before .before .before .before .before .before .before .before in
+    let opcode-at = c .before .before .before .before .before .before .before .before .opcode-at in
+    let match = c .before .before .before .before .before .before .match in
+    let a-at9 = c .before .before .before .before .before .a-at9 in
     let entry-of = c .before .before .before .before .entry-of in
-    arm (program (start .args .image .now)) _ _ _ _ _ _ _ (opcode-at .ensures .0) (a-at .ensures .0) (b-at .ensures .0) (c-at .ensures) (price-is _ _ _ (omega (arith, opcode-at .ensures .1, opcode-at .ensures .2, start .pre .prices .long)) refl) (λ s. op-17 _ _ _ _ _ s (match .keys12)) (call .ensures (program (start .args .image .now)) _ _ _ (sym (entry-of .ensures .0)))
+    let call = c .before .before .call in
+    arm (program (start .args .image .now)) _ _ _ _ _ _ _ (opcode-at .ensures .0) (a-at9 .ensures .0) refl refl (price-is _ _ _ (omega (arith, opcode-at .ensures .1, opcode-at .ensures .2, start .pre .0 .prices .long)) refl) (λ s. op-17 _ _ _ _ _ s (match .keys12)) (call .ensures (program (start .args .image .now)) _ _ _ (sym (entry-of .ensures .0)))
 
--- src/stepping.rt:36:5
+-- src/stepping.rt:77:5
 same-length-12 : tie.Need-same-length-12
 same-length-12 c = search needs
 
--- src/stepping.rt:36:5
+-- src/stepping.rt:77:5
 returns-13 : tie.Need-returns-13
 returns-13 c =
-    let start = c .before .before .before .before .before .before .before .before .before .before .before .before .before .before .before .before .before .before in
-    let opcode-at = c .before .before .before .before .before .before .before .before .before .opcode-at in
-    let a-at = c .before .before .before .before .before .before .before .before .a-at in
-    let b-at = c .before .before .before .before .before .before .before .b-at in
-    let c-at = c .before .before .before .before .before .before .c-at in
+    let start = c .before .before .before .before .before .before .before .before .before .before .before .before .before .before .before .before in
+    let opcode-at = c .before .before .before .before .before .before .opcode-at in
     let match = c .before .before .before .before .match in
     let give-back = c .before .before .give-back in
-    arm (program (start .args .image .now)) _ _ _ _ _ _ _ (opcode-at .ensures .0) (a-at .ensures .0) (b-at .ensures .0) (c-at .ensures) (price-is _ _ _ (omega (arith, opcode-at .ensures .1, opcode-at .ensures .2, start .pre .prices .long)) refl) (λ s. op-18 _ _ _ _ _ s (match .keys13)) (give-back .ensures _ _ _)
+    arm (program (start .args .image .now)) _ _ _ _ _ _ _ (opcode-at .ensures .0) refl refl refl (price-is _ _ _ (omega (arith, opcode-at .ensures .1, opcode-at .ensures .2, start .pre .0 .prices .long)) refl) (λ s. op-18 _ _ _ _ _ s (match .keys13)) (give-back .ensures _ _ _)
 
--- src/stepping.rt:36:5
+-- src/stepping.rt:77:5
 same-length-13 : tie.Need-same-length-13
 same-length-13 c = search needs
 
--- src/stepping.rt:36:5
+-- src/stepping.rt:77:5
 returns-14 : tie.Need-returns-14
 returns-14 c =
-    let start = c .before .before .before .before .before .before .before .before .before .before .before .before .before .before .before .before in
-    let opcode-at = c .before .before .before .before .before .before .before .opcode-at in
-    let a-at = c .before .before .before .before .before .before .a-at in
-    let b-at = c .before .before .before .before .before .b-at in
-    let c-at = c .before .before .before .before .c-at in
+    let start = c .before .before .before .before .before .before .before .before .before .before .before .before .before .before in
+    let opcode-at = c .before .before .before .before .opcode-at in
     let match = c .before .before .match in
     let start-matches = c .start-matches in
-    arm (program (start .args .image .now)) _ _ _ _ _ _ _ (opcode-at .ensures .0) (a-at .ensures .0) (b-at .ensures .0) (c-at .ensures) (price-is _ _ _ (omega (arith, opcode-at .ensures .1, opcode-at .ensures .2, start .pre .prices .long)) refl) (λ s. op-22 _ _ _ _ _ s (match .keys14)) (start-matches .ensures _ _ _)
+    arm (program (start .args .image .now)) _ _ _ _ _ _ _ (opcode-at .ensures .0) refl refl refl (price-is _ _ _ (omega (arith, opcode-at .ensures .1, opcode-at .ensures .2, start .pre .0 .prices .long)) refl) (λ s. op-22 _ _ _ _ _ s (match .keys14)) (start-matches .ensures _ _ _)
 
--- src/stepping.rt:36:5
+-- src/stepping.rt:77:5
 returns-15 : tie.Need-returns-15
 returns-15 c =
-    let start = c .before .before .before .before .before .before .before .before .before .before .before .before .before .before .before in
-    let opcode-at = c .before .before .before .before .before .before .opcode-at in
-    let a-at = c .before .before .before .before .before .a-at in
-    let b-at = c .before .before .before .before .b-at in
-    let c-at = c .before .before .before .c-at in
+    let start = c .before .before .before .before .before .before .before .before .before .before .before .before .before in
+    let opcode-at = c .before .before .before .opcode-at in
     let match = c .before .match in
     let match-rule = c .match-rule in
-    arm (program (start .args .image .now)) _ _ _ _ _ _ _ (opcode-at .ensures .0) (a-at .ensures .0) (b-at .ensures .0) (c-at .ensures) (price-is _ _ _ (omega (arith, opcode-at .ensures .1, opcode-at .ensures .2, start .pre .prices .long)) refl) (λ s. op-23 _ _ _ _ _ s (match .keys15)) (match-rule .ensures _ _ _ _)
+    arm (program (start .args .image .now)) _ _ _ _ _ _ _ (opcode-at .ensures .0) refl refl refl (price-is _ _ _ (omega (arith, opcode-at .ensures .1, opcode-at .ensures .2, start .pre .0 .prices .long)) refl) (λ s. op-23 _ _ _ _ _ s (match .keys15)) (match-rule .ensures _ _ _ _)
 
--- src/stepping.rt:36:5
+-- src/stepping.rt:77:5
 returns-16 : tie.Need-returns-16
 returns-16 c =
-    let start = c .before .before .before .before .before .before .before .before .before .before .before .before .before .before .before in
-    let opcode-at = c .before .before .before .before .before .before .opcode-at in
-    let a-at = c .before .before .before .before .before .a-at in
-    let b-at = c .before .before .before .before .b-at in
-    let c-at = c .before .before .before .c-at in
+    let start = c .before .before .before .before .before .before .before .before .before .before .before .before .before in
+    let opcode-at = c .before .before .before .opcode-at in
     let match = c .before .match in
     let matched-rule = c .matched-rule in
-    arm (program (start .args .image .now)) _ _ _ _ _ _ _ (opcode-at .ensures .0) (a-at .ensures .0) (b-at .ensures .0) (c-at .ensures) (price-is _ _ _ (omega (arith, opcode-at .ensures .1, opcode-at .ensures .2, start .pre .prices .long)) refl) (λ s. op-24 _ _ _ _ _ s (match .keys16)) (matched-rule .ensures _ _ _ _)
+    arm (program (start .args .image .now)) _ _ _ _ _ _ _ (opcode-at .ensures .0) refl refl refl (price-is _ _ _ (omega (arith, opcode-at .ensures .1, opcode-at .ensures .2, start .pre .0 .prices .long)) refl) (λ s. op-24 _ _ _ _ _ s (match .keys16)) (matched-rule .ensures _ _ _ _)
 
--- src/stepping.rt:36:5
+-- src/stepping.rt:77:5
 returns-17 : tie.Need-returns-17
 returns-17 c =
-    let start = c .before .before .before .before .before .before .before .before .before .before .before .before .before .before .before in
-    let opcode-at = c .before .before .before .before .before .before .opcode-at in
-    let a-at = c .before .before .before .before .before .a-at in
-    let b-at = c .before .before .before .before .b-at in
-    let c-at = c .before .before .before .c-at in
+    let start = c .before .before .before .before .before .before .before .before .before .before .before .before .before in
+    let opcode-at = c .before .before .before .opcode-at in
     let match = c .before .match in
     let match-none = c .match-none in
-    arm (program (start .args .image .now)) _ _ _ _ _ _ _ (opcode-at .ensures .0) (a-at .ensures .0) (b-at .ensures .0) (c-at .ensures) (price-is _ _ _ (omega (arith, opcode-at .ensures .1, opcode-at .ensures .2, start .pre .prices .long)) refl) (λ s. op-25 _ _ _ _ _ s (match .keys17)) (match-none .ensures _ _ _ _)
+    arm (program (start .args .image .now)) _ _ _ _ _ _ _ (opcode-at .ensures .0) refl refl refl (price-is _ _ _ (omega (arith, opcode-at .ensures .1, opcode-at .ensures .2, start .pre .0 .prices .long)) refl) (λ s. op-25 _ _ _ _ _ s (match .keys17)) (match-none .ensures _ _ _ _)
 
--- src/stepping.rt:36:5
+-- src/stepping.rt:77:5
 same-length-14 : tie.Need-same-length-14
 same-length-14 c = search needs
 
--- src/stepping.rt:36:5
+-- src/stepping.rt:77:5
 same-length-15 : tie.Need-same-length-15
 same-length-15 c = search needs
 
--- src/stepping.rt:36:5
+-- src/stepping.rt:77:5
 returns-18 : tie.Need-returns-18
 returns-18 c =
-    let start = c .before .before .before .before .before .before .before .before .before .before .before .before .before .before .before .before .before .before .before in
-    let opcode-at = c .before .before .before .before .before .before .before .before .before .before .opcode-at in
-    let a-at = c .before .before .before .before .before .before .before .before .before .a-at in
-    let b-at = c .before .before .before .before .before .before .before .before .b-at in
-    let c-at = c .before .before .before .before .before .before .before .c-at in
+    let start = c .before .before .before .before .before .before .before .before .before .before .before .before .before .before .before .before .before in
+    let opcode-at = c .before .before .before .before .before .before .before .opcode-at in
     let match = c .before .before .before .before .before .match in
     let unpack = c .before .before .unpack in
-    arm (program (start .args .image .now)) _ _ _ _ _ _ _ (opcode-at .ensures .0) (a-at .ensures .0) (b-at .ensures .0) (c-at .ensures) (price-is _ _ _ (omega (arith, opcode-at .ensures .1, opcode-at .ensures .2, start .pre .prices .long)) refl) (λ s. op-33 _ _ _ _ _ s (match .keys18)) (unpack .ensures _ _)
+    arm (program (start .args .image .now)) _ _ _ _ _ _ _ (opcode-at .ensures .0) refl refl refl (price-is _ _ _ (omega (arith, opcode-at .ensures .1, opcode-at .ensures .2, start .pre .0 .prices .long)) refl) (λ s. op-33 _ _ _ _ _ s (match .keys18)) (unpack .ensures _ _)
 
--- src/stepping.rt:36:5
+-- src/stepping.rt:77:5
 same-length-16 : tie.Need-same-length-16
 same-length-16 c = search needs
 
--- src/stepping.rt:36:5
+-- src/stepping.rt:77:5
 returns-19 : tie.Need-returns-19
 returns-19 c =
-    let start = c .before .before .before .before .before .before .before .before .before .before .before .before .before .before .before .before .before .before in
-    let opcode-at = c .before .before .before .before .before .before .before .before .before .opcode-at in
-    let a-at = c .before .before .before .before .before .before .before .before .a-at in
-    let b-at = c .before .before .before .before .before .before .before .b-at in
-    let c-at = c .before .before .before .before .before .before .c-at in
+    let start = c .before .before .before .before .before .before .before .before .before .before .before .before .before .before .before .before in
+    let opcode-at = c .before .before .before .before .before .before .opcode-at in
     let match = c .before .before .before .before .match in
     let reorder = c .before .before .reorder in
-    arm (program (start .args .image .now)) _ _ _ _ _ _ _ (opcode-at .ensures .0) (a-at .ensures .0) (b-at .ensures .0) (c-at .ensures) (price-is _ _ _ (omega (arith, opcode-at .ensures .1, opcode-at .ensures .2, start .pre .prices .long)) refl) (λ s. op-34 _ _ _ _ _ s (match .keys19)) (reorder .ensures _ _ _)
+    arm (program (start .args .image .now)) _ _ _ _ _ _ _ (opcode-at .ensures .0) refl refl refl (price-is _ _ _ (omega (arith, opcode-at .ensures .1, opcode-at .ensures .2, start .pre .0 .prices .long)) refl) (λ s. op-34 _ _ _ _ _ s (match .keys19)) (reorder .ensures _ _ _)
 
--- src/stepping.rt:36:5
+-- src/stepping.rt:77:5
 same-length-17 : tie.Need-same-length-17
 same-length-17 c = search needs
 
--- src/stepping.rt:36:5
+-- src/stepping.rt:77:5
 same-length-18 : tie.Need-same-length-18
 same-length-18 c = search needs
 
--- src/stepping.rt:36:5
+-- src/stepping.rt:77:5
 same-length-19 : tie.Need-same-length-19
 same-length-19 c = search needs
 
--- src/stepping.rt:36:5
+-- src/stepping.rt:77:5
 returns-20 : tie.Need-returns-20
 returns-20 c =
-    let start = c .before .before .before .before .before .before .before .before .before .before .before .before .before .before .before .before .before .before .before .before .before .before in
-    let opcode-at = c .before .before .before .before .before .before .before .before .before .before .before .before .before .opcode-at in
-    let a-at = c .before .before .before .before .before .before .before .before .before .before .before .before .a-at in
-    let b-at = c .before .before .before .before .before .before .before .before .before .before .before .b-at in
-    let c-at = c .before .before .before .before .before .before .before .before .before .before .c-at in
-    let match = c .before .before .before .before .before .before .before .before .match in
+    let start = c .before .before .before .before .before .before .before .before .before .before .before .before .before .before .before .before .before .before .before .before .before in
+    let opcode-at = c .before .before .before .before .before .before .before .before .before .before .before .opcode-at in
+    let match = c .before .before .before .before .before .before .before .before .before .match in
+    let a-at10 = c .before .before .before .before .before .before .before .before .a-at10 in
     let copy-input = c .before .before .before .before .copy-input in
-    arm (program (start .args .image .now)) _ _ _ _ _ _ _ (opcode-at .ensures .0) (a-at .ensures .0) (b-at .ensures .0) (c-at .ensures) (price-is _ _ _ (omega (arith, opcode-at .ensures .1, opcode-at .ensures .2, start .pre .prices .long)) refl) (λ s. op-35 _ _ _ _ _ s (match .keys20)) (copy-input .ensures _)
+    arm (program (start .args .image .now)) _ _ _ _ _ _ _ (opcode-at .ensures .0) (a-at10 .ensures .0) refl refl (price-is _ _ _ (omega (arith, opcode-at .ensures .1, opcode-at .ensures .2, start .pre .0 .prices .long)) refl) (λ s. op-35 _ _ _ _ _ s (match .keys20)) (copy-input .ensures _)
 
--- src/stepping.rt:36:5
+-- src/stepping.rt:77:5
 same-length-20 : tie.Need-same-length-20
 same-length-20 c = search needs
 
--- src/stepping.rt:36:5
+-- src/stepping.rt:77:5
 same-length-21 : tie.Need-same-length-21
 same-length-21 c = search needs
 
--- src/stepping.rt:36:5
+-- src/stepping.rt:77:5
 returns-21 : tie.Need-returns-21
 returns-21 c =
-    let start = c .before .before .before .before .before .before .before .before .before .before .before .before .before .before .before .before .before in
-    let opcode-at = c .before .before .before .before .before .before .before .before .opcode-at in
-    let a-at = c .before .before .before .before .before .before .before .a-at in
-    let b-at = c .before .before .before .before .before .before .b-at in
-    let c-at = c .before .before .before .before .before .c-at in
+    let start = c .before .before .before .before .before .before .before .before .before .before .before .before .before .before .before in
+    let opcode-at = c .before .before .before .before .before .opcode-at in
     let match = c .before .before .before .match in
     let check-outputs = c .check-outputs in
-    arm (program (start .args .image .now)) _ _ _ _ _ _ _ (opcode-at .ensures .0) (a-at .ensures .0) (b-at .ensures .0) (c-at .ensures) (price-is _ _ _ (omega (arith, opcode-at .ensures .1, opcode-at .ensures .2, start .pre .prices .long)) refl) (λ s. op-38 _ _ _ _ _ s (match .keys21)) (check-outputs .ensures (program (start .args .image .now)) _ _ (sym (start .pre .fixing .inputs)) (sym (start .pre .fixing .outputs)))
+    arm (program (start .args .image .now)) _ _ _ _ _ _ _ (opcode-at .ensures .0) refl refl refl (price-is _ _ _ (omega (arith, opcode-at .ensures .1, opcode-at .ensures .2, start .pre .0 .prices .long)) refl) (λ s. op-38 _ _ _ _ _ s (match .keys21)) (check-outputs .ensures (program (start .args .image .now)) _ _ (sym (start .pre .0 .fixing .inputs)) (sym (start .pre .0 .fixing .outputs)))
 
--- src/stepping.rt:36:5
+-- src/stepping.rt:77:5
 same-length-22 : tie.Need-same-length-22
 same-length-22 c = search needs
 
--- src/stepping.rt:36:5
+-- src/stepping.rt:77:5
 same-length-23 : tie.Need-same-length-23
 same-length-23 c = search needs
 
--- src/stepping.rt:36:5
+-- src/stepping.rt:77:5
 same-length-24 : tie.Need-same-length-24
 same-length-24 c = search needs
 
--- src/stepping.rt:36:5
+-- src/stepping.rt:77:5
 returns-22 : tie.Need-returns-22
 returns-22 c =
-    let start = c .before .before .before .before .before .before .before .before .before .before .before .before .before .before .before .before .before .before .before .before in
-    let opcode-at = c .before .before .before .before .before .before .before .before .before .before .before .opcode-at in
-    let a-at = c .before .before .before .before .before .before .before .before .before .before .a-at in
-    let b-at = c .before .before .before .before .before .before .before .before .before .b-at in
-    let c-at = c .before .before .before .before .before .before .before .before .c-at in
-    let match = c .before .before .before .before .before .before .match in
+    let start = c .before .before .before .before .before .before .before .before .before .before .before .before .before .before .before .before .before .before .before in
+    let opcode-at = c .before .before .before .before .before .before .before .before .before .opcode-at in
+    let match = c .before .before .before .before .before .before .before .match in
+    let a-at11 = c .before .before .before .before .before .before .a-at11 in
     let write = c .before .before .write in
-    arm (program (start .args .image .now)) _ _ _ _ _ _ _ (opcode-at .ensures .0) (a-at .ensures .0) (b-at .ensures .0) (c-at .ensures) (price-is _ _ _ (omega (arith, opcode-at .ensures .1, opcode-at .ensures .2, start .pre .prices .long)) refl) (λ s. op-39 _ _ _ _ _ s (match .keys22)) (write .ensures (program (start .args .image .now)) _ (sym (start .pre .fixing .inputs)))
+    arm (program (start .args .image .now)) _ _ _ _ _ _ _ (opcode-at .ensures .0) (a-at11 .ensures .0) refl refl (price-is _ _ _ (omega (arith, opcode-at .ensures .1, opcode-at .ensures .2, start .pre .0 .prices .long)) refl) (λ s. op-39 _ _ _ _ _ s (match .keys22)) (write .ensures (program (start .args .image .now)) _ (sym (start .pre .0 .fixing .inputs)))
 
--- src/stepping.rt:36:5
+-- src/stepping.rt:77:5
 same-length-25 : tie.Need-same-length-25
 same-length-25 c = search needs
 
--- src/stepping.rt:36:5
+-- src/stepping.rt:77:5
 same-length-26 : tie.Need-same-length-26
 same-length-26 c = search needs
 
--- src/stepping.rt:36:5
+-- src/stepping.rt:77:5
 returns-23 : tie.Need-returns-23
 returns-23 c =
-    let start = c .before .before .before .before .before .before .before .before .before .before .before .before .before .before .before .before .before .before .before .before .before .before .before .before in
-    let opcode-at = c .before .before .before .before .before .before .before .before .before .before .before .before .before .before .before .opcode-at in
-    let a-at = c .before .before .before .before .before .before .before .before .before .before .before .before .before .before .a-at in
-    let b-at = c .before .before .before .before .before .before .before .before .before .before .before .before .before .b-at in
-    let c-at = c .before .before .before .before .before .before .before .before .before .before .before .before .c-at in
-    let if1 = c .before .before .before .before .before .before .before .before .before .if1 in
-    let if2 = c .before .before .before .before .before .before .before .before .if2 in
+    let start = c .before .before .before .before .before .before .before .before .before .before .before .before .before .before .before .before .before .before .before .before .before .before .before in
+    let opcode-at = c .before .before .before .before .before .before .before .before .before .before .before .before .before .opcode-at in
+    let if1 = c .before .before .before .before .before .before .before .before .before .before .if1 in
+    let if2 = c .before .before .before .before .before .before .before .before .before .if2 in
+    let c-at = c .before .before .before .before .before .before .before .before .c-at in
     let stored = c .before .before .before .before .before .before .before .stored in
     let mk-atom = c .before .before .before .before .mk-atom in
-    arm (program (start .args .image .now)) _ _ _ _ _ _ _ (opcode-at .ensures .0) (a-at .ensures .0) (b-at .ensures .0) (c-at .ensures) (price-is _ _ _ (omega (arith, opcode-at .ensures .1, opcode-at .ensures .2, start .pre .prices .long)) refl) (λ s. atoms-of _ (program (start .args .image .now)) _ _ _ _ s (if1 .left) (if2 .taken) (stored .ensures)) (mk-atom .ensures _ _)
+    arm (program (start .args .image .now)) _ _ _ _ _ _ _ (opcode-at .ensures .0) refl refl (c-at .ensures) (price-is _ _ _ (omega (arith, opcode-at .ensures .1, opcode-at .ensures .2, start .pre .0 .prices .long)) refl) (λ s. atoms-of _ (program (start .args .image .now)) _ _ _ _ s (if1 .left) (if2 .taken) (stored .ensures)) (mk-atom .ensures _ _)
 
--- src/stepping.rt:36:5
+-- src/stepping.rt:77:5
 same-length-27 : tie.Need-same-length-27
 same-length-27 c = search needs
 
--- src/stepping.rt:36:5
+-- src/stepping.rt:77:5
 same-length-28 : tie.Need-same-length-28
 same-length-28 c = search needs
 
--- src/stepping.rt:36:5
+-- src/stepping.rt:77:5
 returns-24 : tie.Need-returns-24
 returns-24 c =
-    let if2 = c .before .before .before .before .before .before .before .before .if2 in
-    let match = c .before .before .before .before .before .before .before .before .before .before .match in
     let start = c .before .before .before .before .before .before .before .before .before .before .before .before .before .before .before .before .before .before .before .before .before .before .before .before in
-    let opcode-at = c .before .before .before .before .before .before .before .before .before .before .before .before .before .before .before .opcode-at in
-    let a-at = c .before .before .before .before .before .before .before .before .before .before .before .before .before .before .a-at in
-    let b-at = c .before .before .before .before .before .before .before .before .before .before .before .before .before .b-at in
-    let c-at = c .before .before .before .before .before .before .before .before .before .before .before .before .c-at in
-    let if3 = c .before .before .before .before .before .before .before .if3 in
+    let opcode-at = c .before .before .before .before .before .before .before .before .before .before .before .before .before .before .opcode-at in
+    let match = c .before .before .before .before .before .before .before .before .before .before .before .before .match in
+    let if2 = c .before .before .before .before .before .before .before .before .before .before .if2 in
+    let if3 = c .before .before .before .before .before .before .before .before .before .if3 in
+    let b-at3 = c .before .before .before .before .before .before .before .before .b-at3 in
+    let a-at12 = c .before .before .before .before .before .before .before .a-at12 in
     let mk-block = c .before .before .before .before .mk-block in
-    let l = is-block _ (if2 .left) (match .rest .0 .0 .0 .0 .0 .0 .0 .0 .0 .0 .0 .0 .0 .0 .0 .0 .0 .0 .0 .0 .0 .1) in arm (program (start .args .image .now)) _ _ _ _ _ _ _ (opcode-at .ensures .0) (a-at .ensures .0) (b-at .ensures .0) (c-at .ensures) (price-is _ _ _ (omega (arith, opcode-at .ensures .1, opcode-at .ensures .2, start .pre .prices .long)) refl) (λ s. blocks _ (program (start .args .image .now)) _ _ _ s l (if3 .taken) (λ e. b-at .ensures .0 ∙ b-unused (program (start .args .image .now)) _ (start .pre .imaged .accepted .instruction _ (start .pre .pc)) (sym (opcode-at .ensures .0) ∙ e))) (mk-block .ensures _ _)
+    let l = is-block _ (if2 .left) (match .rest .0 .0 .0 .0 .0 .0 .0 .0 .0 .0 .0 .0 .0 .0 .0 .0 .0 .0 .0 .0 .0 .1) in arm (program (start .args .image .now)) _ _ _ _ _ _ _ (opcode-at .ensures .0) (a-at12 .ensures .0) (b-at3 .ensures .0) refl (price-is _ _ _ (omega (arith, opcode-at .ensures .1, opcode-at .ensures .2, start .pre .0 .prices .long)) refl) (λ s. blocks _ (program (start .args .image .now)) _ _ _ s l (if3 .taken) (λ e. b-at3 .ensures .0 ∙ b-unused (program (start .args .image .now)) _ (start .pre .0 .imaged .accepted .instruction _ (start .pre .0 .pc)) (sym (opcode-at .ensures .0) ∙ e))) (mk-block .ensures _ _)
 
--- src/stepping.rt:36:5
+-- src/stepping.rt:77:5
 same-length-29 : tie.Need-same-length-29
 same-length-29 c = search needs
 
--- src/stepping.rt:36:5
+-- src/stepping.rt:77:5
 same-length-30 : tie.Need-same-length-30
 same-length-30 c = search needs
 
--- src/stepping.rt:36:5
+-- src/stepping.rt:77:5
 returns-25 : tie.Need-returns-25
 returns-25 c =
-    let if3 = c .before .before .before .before .before .before .before .before .if3 in
-    let match = c .before .before .before .before .before .before .before .before .before .before .before .match in
     let start = c .before .before .before .before .before .before .before .before .before .before .before .before .before .before .before .before .before .before .before .before .before .before .before .before .before in
-    let opcode-at = c .before .before .before .before .before .before .before .before .before .before .before .before .before .before .before .before .opcode-at in
-    let a-at = c .before .before .before .before .before .before .before .before .before .before .before .before .before .before .before .a-at in
-    let b-at = c .before .before .before .before .before .before .before .before .before .before .before .before .before .before .b-at in
-    let c-at = c .before .before .before .before .before .before .before .before .before .before .before .before .before .c-at in
-    let if4 = c .before .before .before .before .before .before .before .if4 in
+    let opcode-at = c .before .before .before .before .before .before .before .before .before .before .before .before .before .before .before .opcode-at in
+    let match = c .before .before .before .before .before .before .before .before .before .before .before .before .before .match in
+    let if3 = c .before .before .before .before .before .before .before .before .before .before .if3 in
+    let if4 = c .before .before .before .before .before .before .before .before .before .if4 in
+    let a-at13 = c .before .before .before .before .before .before .before .before .a-at13 in
+    let b-at4 = c .before .before .before .before .before .before .before .b-at4 in
     let apply = c .before .before .before .before .apply in
-    let l = is-apply _ (if3 .left) (match .rest .0 .0 .0 .0 .0 .0 .0 .0 .0 .0 .0 .0 .0 .0 .0 .0 .0 .0 .0 .0 .1) (match .rest .0 .0 .0 .0 .0 .0 .0 .0 .0 .0 .0 .0 .0 .0 .0 .0 .0 .0 .0 .1) (match .rest .0 .0 .0 .0 .0 .0 .0 .0 .0 .0 .0 .0 .0 .0 .0 .0 .0 .0 .1) (match .rest .0 .0 .0 .0 .0 .0 .0 .0 .0 .0 .0 .0 .0 .0 .0 .0 .0 .1) (match .rest .0 .0 .0 .0 .0 .0 .0 .0 .0 .0 .0 .0 .0 .0 .0 .0 .1) (match .rest .0 .0 .0 .0 .0 .0 .0 .0 .0 .0 .0 .0 .0 .0 .0 .1) (match .rest .0 .0 .0 .0 .0 .0 .0 .0 .0 .0 .0 .0 .0 .0 .1) (match .rest .0 .0 .0 .0 .0 .0 .0 .0 .0 .0 .0 .0 .0 .1) (match .rest .0 .0 .0 .0 .0 .0 .0 .0 .0 .0 .0 .0 .1) (match .rest .0 .0 .0 .0 .0 .0 .0 .0 .0 .0 .0 .1) (match .rest .0 .0 .0 .0 .0 .0 .0 .0 .0 .0 .1) (match .rest .0 .0 .0 .0 .0 .0 .0 .0 .0 .1) in arm (program (start .args .image .now)) _ _ _ _ _ _ (instruction _ (program (start .args .image .now)) _ _ _) (opcode-at .ensures .0) (a-at .ensures .0) (b-at .ensures .0) (c-at .ensures) (price-is _ _ _ (omega (arith, opcode-at .ensures .1, opcode-at .ensures .2, start .pre .prices .long)) refl) (λ s. refl) (applies _ _ (program (start .args .image .now)) _ _ _ l (if4 .taken) (apply .ensures .0 (program (start .args .image .now)) _ _ (start .pre .fixing .handled)) (apply .ensures .1 .0 (program (start .args .image .now)) _ _ (start .pre .fixing .handled)) (apply .ensures .1 .1 (program (start .args .image .now)) _ _ (start .pre .fixing .handled)))
+    let l = is-apply _ (if3 .left) (match .rest .0 .0 .0 .0 .0 .0 .0 .0 .0 .0 .0 .0 .0 .0 .0 .0 .0 .0 .0 .0 .1) (match .rest .0 .0 .0 .0 .0 .0 .0 .0 .0 .0 .0 .0 .0 .0 .0 .0 .0 .0 .0 .1) (match .rest .0 .0 .0 .0 .0 .0 .0 .0 .0 .0 .0 .0 .0 .0 .0 .0 .0 .0 .1) (match .rest .0 .0 .0 .0 .0 .0 .0 .0 .0 .0 .0 .0 .0 .0 .0 .0 .0 .1) (match .rest .0 .0 .0 .0 .0 .0 .0 .0 .0 .0 .0 .0 .0 .0 .0 .0 .1) (match .rest .0 .0 .0 .0 .0 .0 .0 .0 .0 .0 .0 .0 .0 .0 .0 .1) (match .rest .0 .0 .0 .0 .0 .0 .0 .0 .0 .0 .0 .0 .0 .0 .1) (match .rest .0 .0 .0 .0 .0 .0 .0 .0 .0 .0 .0 .0 .0 .1) (match .rest .0 .0 .0 .0 .0 .0 .0 .0 .0 .0 .0 .0 .1) (match .rest .0 .0 .0 .0 .0 .0 .0 .0 .0 .0 .0 .1) (match .rest .0 .0 .0 .0 .0 .0 .0 .0 .0 .0 .1) (match .rest .0 .0 .0 .0 .0 .0 .0 .0 .0 .1) in arm (program (start .args .image .now)) _ _ _ _ _ _ (instruction _ (program (start .args .image .now)) _ _ _) (opcode-at .ensures .0) (a-at13 .ensures .0) (b-at4 .ensures .0) refl (price-is _ _ _ (omega (arith, opcode-at .ensures .1, opcode-at .ensures .2, start .pre .0 .prices .long)) refl) (λ s. refl) (applies _ _ (program (start .args .image .now)) _ _ _ l (if4 .taken) (apply .ensures .0 (program (start .args .image .now)) _ _ (start .pre .0 .fixing .handled)) (apply .ensures .1 .0 (program (start .args .image .now)) _ _ (start .pre .0 .fixing .handled)) (apply .ensures .1 .1 (program (start .args .image .now)) _ _ (start .pre .0 .fixing .handled)))
 
--- src/stepping.rt:36:5
+-- src/stepping.rt:77:5
 same-length-31 : tie.Need-same-length-31
 same-length-31 c = search needs
 
--- src/stepping.rt:36:5
+-- src/stepping.rt:77:5
 same-length-32 : tie.Need-same-length-32
 same-length-32 c = search needs
 
--- src/stepping.rt:36:5
+-- src/stepping.rt:77:5
 same-length-33 : tie.Need-same-length-33
 same-length-33 c = search needs
 
--- src/stepping.rt:36:5
+-- src/stepping.rt:77:5
 same-length-34 : tie.Need-same-length-34
 same-length-34 c = search needs
 
--- src/stepping.rt:36:5
+-- src/stepping.rt:77:5
 returns-26 : tie.Need-returns-26
 returns-26 c =
-    let start = c .before .before .before .before .before .before .before .before .before .before .before .before .before .before .before .before .before .before .before .before .before .before .before .before in
+    let start = c .before .before .before .before .before .before .before .before .before .before .before .before .before .before .before .before .before .before .before .before .before .before .before .before .before in
     let opcode-at = c .before .before .before .before .before .before .before .before .before .before .before .before .before .before .before .opcode-at in
-    let a-at = c .before .before .before .before .before .before .before .before .before .before .before .before .before .before .a-at in
-    let b-at = c .before .before .before .before .before .before .before .before .before .before .before .before .before .b-at in
-    let c-at = c .before .before .before .before .before .before .before .before .before .before .before .before .c-at in
+    let a-at14 = c .before .before .before .before .before .before .before .a-at14 in
+    let b-at5 = c .before .before .before .before .before .before .b-at5 in
+    let c-at2 = c .before .before .before .before .before .c-at2 in
     let matching = c .matching in
-    arm (program (start .args .image .now)) _ _ _ _ _ _ (instruction _ (program (start .args .image .now)) _ _ _) (opcode-at .ensures .0) (a-at .ensures .0) (b-at .ensures .0) (c-at .ensures) (price-is _ _ _ (omega (arith, opcode-at .ensures .1, opcode-at .ensures .2, start .pre .prices .long)) refl) (λ s. refl) (matching .ensures (field-b (program (start .args .image .now)) _ (start .pre .imaged .accepted .instruction _ (start .pre .pc)) (opcode-at .ensures .0) (b-at .ensures .0)))
+    arm (program (start .args .image .now)) _ _ _ _ _ _ (instruction _ (program (start .args .image .now)) _ _ _) (opcode-at .ensures .0) (a-at14 .ensures .0) (b-at5 .ensures .0) (c-at2 .ensures) (price-is _ _ _ (omega (arith, opcode-at .ensures .1, opcode-at .ensures .2, start .pre .0 .prices .long)) refl) (λ s. refl) (matching .ensures (field-b (program (start .args .image .now)) _ (start .pre .0 .imaged .accepted .instruction _ (start .pre .0 .pc)) (opcode-at .ensures .0) (b-at5 .ensures .0)))
 
--- src/stepping.rt:36:5
+-- src/stepping.rt:77:5
 same-length-35 : tie.Need-same-length-35
 same-length-35 c = search needs
 
--- src/stepping.rt:36:5
+-- src/stepping.rt:77:5
 returns-27 : tie.Need-returns-27
 returns-27 c =
-    let if5 = c .before .before .before .before .before .if5 in
-    let match = c .before .before .before .before .before .before .before .before .before .before .match in
-    let start = c .before .before .before .before .before .before .before .before .before .before .before .before .before .before .before .before .before .before .before .before .before .before .before .before in
-    let opcode-at = c .before .before .before .before .before .before .before .before .before .before .before .before .before .before .before .opcode-at in
-    let a-at = c .before .before .before .before .before .before .before .before .before .before .before .before .before .before .a-at in
-    let b-at = c .before .before .before .before .before .before .before .before .before .before .before .before .before .b-at in
-    let c-at = c .before .before .before .before .before .before .before .before .before .before .before .before .c-at in
-    let if6 = c .before .before .before .before .if6 in
+    let start = c .before .before .before .before .before .before .before .before .before .before .before .before .before .before .before .before .before .before .before .before .before .before .before in
+    let opcode-at = c .before .before .before .before .before .before .before .before .before .before .before .before .before .opcode-at in
+    let match = c .before .before .before .before .before .before .before .before .before .before .before .match in
+    let if5 = c .before .before .before .before .before .before .if5 in
+    let if6 = c .before .before .before .before .before .if6 in
+    let a-at15 = c .before .before .before .before .a-at15 in
     let consume = c .before .before .consume in
-    let l = is-consume _ (if5 .left) (match .rest .0 .0 .0 .0 .1) (match .rest .0 .0 .0 .1) (match .rest .0 .0 .1) in arm (program (start .args .image .now)) _ _ _ _ _ _ _ (opcode-at .ensures .0) (a-at .ensures .0) (b-at .ensures .0) (c-at .ensures) (price-is _ _ _ (omega (arith, opcode-at .ensures .1, opcode-at .ensures .2, start .pre .prices .long)) refl) (λ s. consumes _ (program (start .args .image .now)) _ _ _ s l (if6 .taken)) (consume .ensures _ _ _)
+    let l = is-consume _ (if5 .left) (match .rest .0 .0 .0 .0 .1) (match .rest .0 .0 .0 .1) (match .rest .0 .0 .1) in arm (program (start .args .image .now)) _ _ _ _ _ _ _ (opcode-at .ensures .0) (a-at15 .ensures .0) refl refl (price-is _ _ _ (omega (arith, opcode-at .ensures .1, opcode-at .ensures .2, start .pre .0 .prices .long)) refl) (λ s. consumes _ (program (start .args .image .now)) _ _ _ s l (if6 .taken)) (consume .ensures _ _ _)
 
--- src/stepping.rt:36:5
+-- src/stepping.rt:77:5
 returns-28 : tie.Need-returns-28
 returns-28 c =
-    let start = c .before .before .before .before .before .before .before .before .before .before .before .before .before .before .before .before in
-    let opcode-at = c .before .before .before .before .before .before .before .opcode-at in
-    let a-at = c .before .before .before .before .before .before .a-at in
-    let b-at = c .before .before .before .before .before .b-at in
-    let c-at = c .before .before .before .before .c-at in
+    let start = c .before .before .before .before .before .before .before .before .before .before .before .before .before .before in
+    let opcode-at = c .before .before .before .before .opcode-at in
     let match = c .before .before .match in
     let if1 = c .before .if1 in
     let schedule = c .schedule in
-    arm (program (start .args .image .now)) _ _ _ _ _ _ _ (opcode-at .ensures .0) (a-at .ensures .0) (b-at .ensures .0) (c-at .ensures) (price-is _ _ _ (omega (arith, opcode-at .ensures .1, opcode-at .ensures .2, start .pre .prices .long)) refl) (λ s. op-40 _ _ _ _ _ s (from-either (λ t. absurd (omega (arith, t .taken, opcode-at .ensures .1))) (λ t. is-schedule _ (opcode-at .ensures .2) (t .5 .left) (match .rest .0 .1) (match .rest .1)) (if1 .came))) (schedule .ensures _ _ _ _)
+    arm (program (start .args .image .now)) _ _ _ _ _ _ _ (opcode-at .ensures .0) refl refl refl (price-is _ _ _ (omega (arith, opcode-at .ensures .1, opcode-at .ensures .2, start .pre .0 .prices .long)) refl) (λ s. op-40 _ _ _ _ _ s (from-either (λ t. absurd (omega (arith, t .taken, opcode-at .ensures .1))) (λ t. is-schedule _ (opcode-at .ensures .2) (t .5 .left) (match .rest .0 .1) (match .rest .1)) (if1 .came))) (schedule .ensures _ _ _ _)
 
 pub step-spec : {M : Type 1} → statement M
 step-spec =
     tie.close
     (tie.spec
     opcode-at-requires
-    a-at-requires
-    b-at-requires
-    c-at-requires
     sub-cost
     mul-cost
     shared-slice-read-cost
     cast-cost
     mk-none-requires
+    a-at-requires
     push-nulls-requires
+    a-at-requires-2
     pop-requires
+    a-at-requires-3
     slide-requires
+    a-at-requires-4
     copy-requires
+    a-at-requires-5
     copy-arg-requires
+    a-at-requires-6
     create-frame-requires
+    a-at-requires-7
     push-var-requires
+    a-at-requires-8
     make-var-requires
+    b-at-requires
     goto-requires
+    b-at-requires-2
     if-true-requires
+    a-at-requires-9
     entry-of-requires
     call-requires
     give-back-requires
@@ -866,21 +926,32 @@ step-spec =
     match-none-requires
     unpack-requires
     reorder-requires
+    a-at-requires-10
     copy-input-requires
     check-outputs-requires
+    a-at-requires-11
     write-requires
     mul-mk-atom
     cast-mk-atom
+    c-at-requires
     stored-requires
     mk-atom-requires
     mul-mk-block
+    b-at-requires-3
     add-mk-block
     cast-mk-block
+    a-at-requires-12
     mk-block-requires
+    a-at-requires-13
+    b-at-requires-4
     cast-apply
     apply-requires
+    a-at-requires-14
+    b-at-requires-5
     cast-matching
+    c-at-requires-2
     matching-requires
+    a-at-requires-15
     consume-requires
     schedule-requires
     same-length
