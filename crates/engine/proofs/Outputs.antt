@@ -64,7 +64,7 @@ maybe-is a s = refl
 
 -- ---- the kinds of words, from their 32 bits
 
-pub value-bits : (w : Word) → Small w → T (isValue w) → ValueBits (bits w)
+value-bits : (w : Word) → Small w → T (isValue w) → ValueBits (bits w)
 unfolding bits
 value-bits w s t = by (value-word w t)
   where
@@ -90,7 +90,7 @@ pub bits-none : (w : Word) → T (isNone w) → bits w ≡ 2 ^ 29
 unfolding bits
 bits-none w t = ap bits (none-is w t)
 
-pub bits-value : (w : Word) → Small w → ValueBits (bits w) → T (isValue w)
+bits-value : (w : Word) → Small w → ValueBits (bits w) → T (isValue w)
 unfolding bits isValue isRef
 bits-value w s v = by (ℕ-discrete (w .type) 1)
   where

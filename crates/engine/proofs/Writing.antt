@@ -1,40 +1,43 @@
 -- What Write leads to.
 use mathlib.Core.Path.{_≡_, refl, sym, ap, _∙_, subst}
-use mathlib.Core.Bool.{Bool, false}
+use mathlib.Core.Bool.{Bool, true, false}
 use mathlib.Core.List.{List, _∷_, _++_, append-assoc}
-use Prim.Native.Nat.{ℕ, suc, _+_, _-_, _*_, _^_, _≤_, _<_}
+use Prim.Native.Nat.{ℕ, suc, _+_, _-_, _*_, _^_, _≤_, _<_, min}
 use native.Mathlib.Omega.{arith}
 use native.Mathlib.Numerals.{add-one}
 use lib.Dec.{T, leb, eqb, leb→le, le→leb, eqb→eq}
 use lib.ListN.{length, getD, set, take, drop, replicate, length-append, length-drop, length-replicate, getD-replicate, take-append-drop}
 use lib.Seq.{sets, sets-eq, getD-append-add, getD-take, getD-drop, length-take-le, drop-drop, ext-getD}
-use Rattle.hume.specs.Tests.{all}
+use Rattle.limits.specs.Machine.{ends}
+use Rattle.hume.specs.Tests.{pick, all}
 use Rattle.hume.specs.Words.{Word, null, link, raw, bits, isRef, isNone, isValue}
 use Rattle.hume.specs.Image.{Program}
 use Rattle.hume.specs.Values.{spread, wireCount, isEmpty, setWire, wireOk}
-use Rattle.hume.specs.State.{State, fault, Deed, locals, values, need, stacks, below, without}
+use Rattle.hume.specs.State.{State, fault, Deed, locals, values, need, rewires, below, without}
 use Rattle.hume.specs.Instructions.{outputAt, Write}
 use Rattle.laws.specs.Sizes.{Small}
 use Rattle.laws.specs.Accepted.{WiresFit}
 use Rattle.laws.specs.Whole.{Held, none-held, ref-held}
 use Rattle.reach.specs.Sound.{Plain, Frames, Sound}
-use Rattle.laws.proofs.Tests.{and-left, and-right, eqb-of, pick-true, pick-false, all-at}
+use Rattle.laws.proofs.Tests.{to-true, of-true, and-left, and-right, eqb-of, pick-true, pick-false, all-at}
 use Rattle.laws.proofs.Words.{bits-raw}
 use Rattle.laws.proofs.Small.{small-raw, raw-bits}
 use Rattle.laws.proofs.Deeds.{need-yes, need-no}
 use Rattle.engine.specs.Fits.{Fit}
-use Rattle.engine.specs.Copies.{WireFits, ValueBits, spreads, HeldWord, putting, TopHeld}
+use Rattle.engine.specs.Copies.{WireFits, Readable, CellFits, Offered, room, unless, roomOf, TopHeld}
 use Rattle.engine.specs.Turns.{Smalls, core, Holds, halt, Buffers, Turned, priced}
 use Rattle.engine.specs.declared.Ending.the-variants as ending
 use Rattle.engine.specs.declared.regs.Limits.{Limits}
 use Rattle.engine.specs.declared.regs.Regs.{Regs}
 use Rattle.engine.specs.declared.regs.Turn.{Turn}
-use Rattle.engine.proofs.Turning.{Leads, stops, lead-still, values-are, reads-below}
+use Rattle.engine.specs.declared.wiring.Room.{Room}
+use Rattle.engine.proofs.Turning.{Leads, stops, values-are, reads-below}
 use Rattle.engine.proofs.Areas.{locals-take}
 use Rattle.engine.proofs.Moving.{stacked}
 use Rattle.engine.proofs.Copying.{set-sets, wire-fits}
-use Rattle.engine.proofs.Reading.{bears-one}
-use Rattle.engine.proofs.Outputs.{lead-wired, value-bits, bits-value, none-bits, bits-none}
+use Rattle.engine.proofs.WordKinds.{not-so}
+use Rattle.engine.proofs.Reading.{bears-one, spread-some}
+use Rattle.engine.proofs.Outputs.{lead-wired, none-bits, bits-none}
 
 -- ---- words on an empty wire
 
@@ -90,7 +93,7 @@ module _ {w : List ℕ} {o : ℕ} (f : WireFits w o) where
         (drop-drop (64 - n) (65 * o + 1 + n) w ∙ ap (λ (i : ℕ). drop i w) t)
 
     -- the words, and then their count: the rest are zeros already
-    pub wire-written : (ws : List ℕ) → length ws ≤ 64
+    wire-written : (ws : List ℕ) → length ws ≤ 64
         → set (sets w (65 * o + 1) ws) (65 * o) (length ws) ≡ setWire w o ws
     unfolding setWire
     wire-written ws h =
@@ -102,25 +105,15 @@ module _ {w : List ℕ} {o : ℕ} (f : WireFits w o) where
         ∙ ap (λ (l : List ℕ). take (65 * o) w ++ (length ws ∷ ws) ++ l) (rest-of (length ws) h)
         ∙ simp append-assoc
 
-    pub wire-put : {n : ℕ} {ws us w' : List ℕ} → length ws ≤ 64 → n ≡ length ws → w' ≡ sets w (65 * o + 1) ws → ws ≡ us
-        → set w' (65 * o) n ≡ setWire w o us
-    wire-put {n} {ws} {us} {w'} h k s u =
-        rw (s, k) (wire-written ws h) ∙ ap (λ (l : List ℕ). setWire w o l) u
+-- ---- the word on top
 
--- ---- the word that is held
+pub small-top : {ws : List Word} → Smalls ws → Small (below ws 0)
+unfolding below
+small-top {ws} sw = sw .each (length ws - (0 + 1))
 
 module _ {r : Regs} {st he : List ℕ} {ws hs : List Word} (h : Holds r st he ws hs) (small : Smalls hs) where
-  -- any reading of the bits is the machine's own
-  pub held-same : {x : ℕ} (k : HeldWord r he x) (v : Word) → x ≡ bits v → Small v → spreads (k .reading) ≡ spread hs v
-  held-same k v e s =
-      let t : k .reading .words ≡ hs = bears-one (k .reading .bears) (h .heap) (k .reading .smalls) small (k .long ∙ h .hp) in
-      let u : k .reading .word ≡ v =
-      sym (raw-bits (k .reading .word) (k .reading .small)) ∙ ap raw (sym (k .reading .is) ∙ e) ∙ raw-bits v s in
-      rw (t, u) refl
-
   -- what holds of the state that the registers and buffers bear
-  pub top-held : Smalls ws → (r .lp < r .sp → T (isValue (below ws 0)) → Held hs (below ws 0)) → TopHeld r st he
-  unfolding below
+  top-held : Smalls ws → (r .lp < r .sp → T (isValue (below ws 0)) → Held hs (below ws 0)) → TopHeld r st he
   top-held sw held =
       record {
         words = hs;
@@ -132,28 +125,166 @@ module _ {r : Regs} {st he : List ℕ} {ws hs : List Word} (h : Holds r st he ws
             let z : below ws 0 ≡ w = sym (raw-bits (below ws 0) (small-top sw)) ∙ ap raw (sym b ∙ e) ∙ raw-bits w s in
             subst (λ (u : Word). Held hs u) z (held l (rw z t));
       }
-    where
-      small-top : Smalls ws → Small (below ws 0)
-      small-top sw = sw .each (length ws - 1)
 
-pub held-word : {r : Regs} {st he : List ℕ} {x : ℕ} → TopHeld r st he → r .lp < r .sp → x ≡ getD st (r .sp - 1) 0
-    → ValueBits x → HeldWord r he x
-held-word {r} {st} {he} {x} t l e v =
-    let s : Small (raw x) = small-raw x (let m = v .most in omega arith) in
-    let k : T (isValue (raw x)) = bits-value (raw x) s (rw (bits-raw x) v) in
+  -- it is offered as the machine's own,
+  abbrev pub own-offered : Smalls ws → TopHeld r st he → r .lp < r .sp → Offered he (getD st (r .sp - 1) 0)
+  own-offered sw t l =
+      let e : getD st (r .sp - 1) 0 ≡ bits (below ws 0) = reads-below h 0 (getD st (r .sp - 1) 0) (omega arith) refl in
+      let u : t .words ≡ hs = bears-one (t .bears) (h .heap) (t .smalls) small (t .long ∙ h .hp) in
+      record {
+        words = hs;
+        word = below ws 0;
+        bears = h .heap;
+        smalls = small;
+        small = small-top sw;
+        is = e;
+        held = λ v. subst (λ (x : List Word). Held x (below ws 0)) u (t .held (below ws 0) l e (small-top sw) v);
+      }
+
+-- or as its 32 bits
+pub top-offered : {r : Regs} {st he : List ℕ} → TopHeld r st he → r .lp < r .sp → getD st (r .sp - 1) 0 < 2 ^ 32
+    → Offered he (getD st (r .sp - 1) 0)
+top-offered {r} {st} {he} t l m =
+    let x = getD st (r .sp - 1) 0 in
+    let s : Small (raw x) = small-raw x m in
     record {
-      reading =
-          record {
-            words = t .words;
-            word = raw x;
-            bears = t .bears;
-            smalls = t .smalls;
-            small = s;
-            held = t .held (raw x) l (sym e ∙ sym (bits-raw x)) s k;
-            is = sym (bits-raw x);
-          };
-      long = t .long;
+      words = t .words;
+      word = raw x;
+      bears = t .bears;
+      smalls = t .smalls;
+      small = s;
+      is = sym (bits-raw x);
+      held = t .held (raw x) l (sym (bits-raw x)) s;
     }
+
+-- a value that is offered can be read
+abbrev pub offered-reads : {he : List ℕ} {x : ℕ} (k : Offered he x) → isValue (k .word) ≡ true → Readable he x
+offered-reads k v =
+    record {
+      words = k .words;
+      word = k .word;
+      bears = k .bears;
+      smalls = k .smalls;
+      small = k .small;
+      held = k .held (of-true v);
+      is = k .is;
+    }
+
+-- ---- the room for it
+
+module _ {he : List ℕ} {x : ℕ} (k : Offered he x) (c : ℕ) where
+  abbrev Is : Room → Type 0
+  Is t = t ≡ roomOf (k .words) (k .word) c
+
+  pub room-other : isValue (k .word) ≡ false → Is (room 2 0)
+  unfolding roomOf
+  room-other v = sym (pick-false (isValue (k .word)) _ _ (not-so v))
+
+  module _ (v : isValue (k .word) ≡ true) where
+    pub room-none : x ≡ 2 ^ 29 → Is (room 0 0)
+    unfolding roomOf
+    room-none e =
+        sym
+        (pick-true (isValue (k .word)) _ _ (of-true v)
+        ∙ pick-true (isNone (k .word)) _ _ (none-bits (k .word) (k .small) (sym (k .is) ∙ e)))
+
+    module _ (d : x ≡ 2 ^ 29 → ⊥) where
+      some : (t : Room) → pick (isValue (k .word)) (pick (isNone (k .word)) (room 0 0) t) (room 2 0) ≡ t
+      some t =
+          pick-true (isValue (k .word)) _ _ (of-true v)
+          ∙ pick-false (isNone (k .word)) _ _ (λ n. d (k .is ∙ bits-none (k .word) n))
+
+      pub room-full : (c ≡ 0 → ⊥) → Is (room 5 0)
+      unfolding roomOf
+      room-full z = sym (some _ ∙ pick-false (eqb c 0) _ _ (λ t. z (eqb→eq c 0 t)))
+
+      module _ (z : c ≡ 0) {n : ℕ} (long : n ≡ min (0 + length (spread (k .words) (k .word))) 65) where
+        pub room-over : 64 < n → Is (room 6 0)
+        unfolding roomOf
+        room-over l =
+            sym
+            (some _
+            ∙ pick-true (eqb c 0) _ _ (eqb-of c 0 z)
+            ∙ pick-false (leb (length (spread (k .words) (k .word))) 64) _ _
+            (λ t. let m = leb→le (length (spread (k .words) (k .word))) 64 t in omega arith))
+
+        pub room-fits : n ≤ 64 → Is (room 0 n)
+        unfolding roomOf
+        room-fits l =
+            let e : n ≡ length (spread (k .words) (k .word)) = omega arith in
+            sym
+            (some _
+            ∙ pick-true (eqb c 0) _ _ (eqb-of c 0 z)
+            ∙ pick-true (leb (length (spread (k .words) (k .word))) 64) _ _
+            (le→leb (length (spread (k .words) (k .word))) 64 (omega arith))
+            ∙ ap (λ (m : ℕ). room 0 m) (sym e))
+
+-- ---- what there is room for
+
+-- roomOf, of its four tests
+abbrev rooms : Bool → Bool → Bool → Bool → ℕ → Room
+rooms a b d g n = unless a 2 (pick b (room 0 0) (unless d 5 (unless g 6 (room 0 n))))
+
+-- the same tests are Write's
+tests-as : (a b d g : Bool) (n : ℕ) → 1 ≤ n → (f : List ℕ → Deed) (w w' : List ℕ)
+    → need a 2 (pick b (f w) (need d 5 (need g 6 (f w'))))
+    ≡ pick (eqb (rooms a b d g n .fault) 0) (f (pick (eqb (rooms a b d g n .n) 0) w w'))
+    (ends (fault (rooms a b d g n .fault)))
+unfolding need pick
+tests-as false b d g n l f w w' = refl
+tests-as true true d g n l f w w' = refl
+tests-as true false false g n l f w w' = refl
+tests-as true false true false n l f w w' = refl
+tests-as true false true true n l f w w' =
+    ap f (sym (pick-false (eqb n 0) w w' (λ t. let e : n ≡ 0 = eqb→eq n 0 t in omega arith)))
+
+record Passed (a d g : Bool) (m n : ℕ) : Type 0 where
+  value : T a
+  empty : T d
+  few : T g
+  long : m ≡ n
+
+tests-pass : (a b d g : Bool) (n : ℕ) → (rooms a b d g n .n ≡ 0 → ⊥) → Passed a d g (rooms a b d g n .n) n
+unfolding pick
+tests-pass false b d g n k = absurd (k refl)
+tests-pass true true d g n k = absurd (k refl)
+tests-pass true false false g n k = absurd (k refl)
+tests-pass true false true false n k = absurd (k refl)
+tests-pass true false true true n k = record { value = tt; empty = tt; few = tt; long = refl }
+
+-- words are written only to an empty wire
+pub record Roomy (hs : List Word) (v : Word) (c n : ℕ) : Type 0 where
+  pub value : isValue v ≡ true
+  pub empty : c ≡ 0
+  pub few : length (spread hs v) ≤ 64
+  pub long : n ≡ length (spread hs v)
+
+pub roomy : {hs : List Word} {v : Word} {c : ℕ} {t : Room} → t ≡ roomOf hs v c → (t .n ≡ 0 → ⊥) → Roomy hs v c (t .n)
+unfolding roomOf
+roomy {hs} {v} {c} {t} e k =
+    let m = length (spread hs v) in
+    let p : Passed (isValue v) (eqb c 0) (leb m 64) (t .n) m =
+    rw e (tests-pass (isValue v) (isNone v) (eqb c 0) (leb m 64) m (rw e at k)) in
+    record { value = to-true (p .value); empty = eqb→eq c 0 (p .empty); few = leb→le m 64 (p .few); long = p .long }
+
+-- so there is room on the wire o
+abbrev pub cell-fits : {he w : List ℕ} {x o n : ℕ} (k : Offered he x) → WireFits w o
+    → Roomy (k .words) (k .word) (getD w (65 * o) 0) n → CellFits he x (65 * o + 1) (length w)
+cell-fits k f y =
+    record { reading = offered-reads k (y .value); fits = let m = y .few in let i = wire-inside f in omega arith }
+
+-- what is there after: the words ws, or what was there if n is 0
+abbrev put : List ℕ → ℕ → ℕ → List ℕ → List ℕ
+put w o n ws = pick (eqb n 0) w (setWire w o ws)
+
+pub put-none : {w : List ℕ} {n : ℕ} (o : ℕ) (ws : List ℕ) → n ≡ 0 → w ≡ put w o n ws
+put-none {w} {n} o ws z = sym (pick-true (eqb n 0) w (setWire w o ws) (eqb-of n 0 z))
+
+pub put-some : {w w' : List ℕ} {o n : ℕ} {hs : List Word} {v : Word} → WireFits w o → Roomy hs v (getD w (65 * o) 0) n
+    → (n ≡ 0 → ⊥) → w' ≡ sets w (65 * o + 1) (spread hs v) → set w' (65 * o) n ≡ put w o n (spread hs v)
+put-some {w} {w'} {o} {n} {hs} {v} f y z s =
+    rw (s, y .long) (wire-written f (y .empty) (spread hs v) (y .few))
+    ∙ sym (pick-false (eqb n 0) w (setWire w o (spread hs v)) (λ t. z (eqb→eq n 0 t)))
 
 -- ---- what a write leads to
 
@@ -172,36 +303,6 @@ module _ {lim : Limits} {r : Regs} (f : Fit lim r) {st he : List ℕ} {ws hs : L
       h .lp
       ∙ ap (λ (n : ℕ). r .fp + n) (sym (locals-take (r .fp) (length ws - 1) ws (omega (arith, h .sp, f .fp))))
 
-  module _ (o : ℕ) (v : Word) where
-    pub put-full : (cost : ℕ) {b : Buffers} {q : Turn} → (getD wi (65 * o) 0 ≡ 0 → ⊥) → q ≡ halt r (ending.Fault 5)
-        → Turned lim r b (priced cost (putting o v) s) q b
-    unfolding putting isEmpty wireCount
-    put-full cost {b} {q} k e =
-        stops cost lim r b s (fault 5)
-        (need-no (eqb (getD wi (65 * o) 0) 0) 5 _ (λ t. k (eqb→eq (getD wi (65 * o) 0) 0 t))) e
-
-    empty : getD wi (65 * o) 0 ≡ 0 → T (eqb (getD wi (65 * o) 0) 0)
-    empty z = eqb-of (getD wi (65 * o) 0) 0 z
-
-    pub put-over : (cost : ℕ) {b : Buffers} {q : Turn} → getD wi (65 * o) 0 ≡ 0 → 64 < length (spread hs v)
-        → q ≡ halt r (ending.Fault 6) → Turned lim r b (priced cost (putting o v) s) q b
-    unfolding putting isEmpty wireCount
-    put-over cost {b} {q} z k e =
-        stops cost lim r b s (fault 6)
-        (need-yes (eqb (getD wi (65 * o) 0) 0) 5 _ (empty z)
-        ∙ need-no (leb (length (spread hs v)) 64) 6 _
-        (λ t. let m = leb→le (length (spread hs v)) 64 t in omega arith))
-        e
-
-    pub put-leads : (cost : ℕ) → r .lp < r .sp → getD wi (65 * o) 0 ≡ 0 → length (spread hs v) ≤ 64
-        → Leads cost (priced cost (putting o v) s) (stacked r (r .sp - 1)) (without 1 ws) hs (setWire wi o (spread hs v)) or
-    unfolding putting isEmpty wireCount
-    put-leads cost l z k =
-        lead-wired cost s (stacked r (r .sp - 1))
-        (need-yes (eqb (getD wi (65 * o) 0) 0) 5 _ (empty z)
-        ∙ need-yes (leb (length (spread hs v)) 64) 6 _ (le→leb (length (spread hs v)) 64 k))
-        (less l) (h .hp) (same-lp l)
-
   module _ (P : Program) (a : ℕ) where
     pub write-few : (cost : ℕ) {b : Buffers} {q : Turn} → r .sp ≤ r .lp → q ≡ halt r (ending.Fault 1)
         → Turned lim r b (priced cost (Write P a) s) q b
@@ -212,48 +313,42 @@ module _ {lim : Limits} {r : Regs} (f : Fit lim r) {st he : List ℕ} {ws hs : L
         (λ t. let v : 1 ≤ r .sp - r .lp = rw (values-are h wi or false) at (leb→le 1 (values s) t) in omega arith))
         e
 
-    module _ (small : Smalls ws) (l : r .lp < r .sp) {x : ℕ} (is : x ≡ getD st (r .sp - 1) 0) where
+    module _ (l : r .lp < r .sp) where
       enough : (d : Deed) → need (leb 1 (values s)) 1 d ≡ d
       enough d = need-yes (leb 1 (values s)) 1 d (le→leb 1 (values s) (rw (values-are h wi or false) (omega arith)))
 
-      pub top-bits : x ≡ bits (below ws 0)
-      top-bits = reads-below h 0 x (omega arith) is
+      module _ (inputs : ℕ) (p : P .inputs ≡ inputs) {t : Room}
+          (e : t ≡ roomOf hs (below ws 0) (getD wi (65 * (inputs + a)) 0)) where
+        abbrev leaves : List ℕ → Deed
+        leaves w = rewires s (without 1 ws) w
 
-      pub top-small : Small (below ws 0)
-      unfolding below
-      top-small = small .each (length ws - (0 + 1))
+        write-is : Write P a s
+            ≡ pick (eqb (t .fault) 0) (leaves (put wi (inputs + a) (t .n) (spread hs (below ws 0))))
+            (ends (fault (t .fault)))
+        unfolding Write roomOf isEmpty wireCount outputAt
+        write-is =
+            let v = below ws 0 in
+            rw e
+            (enough _
+            ∙ ap (λ (i : ℕ). need (isValue v) 2 (pick (isNone v) (leaves wi) (need (eqb (getD wi (65 * (i + a)) 0) 0) 5
+            (need (leb (length (spread hs v)) 64) 6 (leaves (setWire wi (i + a) (spread hs v))))))) p
+            ∙ tests-as (isValue v) (isNone v) (eqb (getD wi (65 * (inputs + a)) 0) 0) (leb (length (spread hs v)) 64)
+            (length (spread hs v)) (spread-some hs v) leaves wi (setWire wi (inputs + a) (spread hs v)))
 
-      pub write-other : (cost : ℕ) {b : Buffers} {q : Turn} → (ValueBits x → ⊥) → q ≡ halt r (ending.Fault 2)
-          → Turned lim r b (priced cost (Write P a) s) q b
-      unfolding Write
-      write-other cost {b} {q} k e =
-          stops cost lim r b s (fault 2)
-          (enough _
-          ∙ need-no (isValue (below ws 0)) 2 _
-          (λ t. k (subst (λ (n : ℕ). ValueBits n) (sym top-bits) (value-bits (below ws 0) top-small t))))
-          e
+        pub write-stops : (cost : ℕ) {b : Buffers} {q : Turn} → (t .fault ≡ 0 → ⊥) → q ≡ halt r (ending.Fault (t .fault))
+            → Turned lim r b (priced cost (Write P a) s) q b
+        write-stops cost {b} {q} k g =
+            stops cost lim r b s (fault (t .fault))
+            (write-is ∙ pick-false (eqb (t .fault) 0) _ _ (λ z. k (eqb→eq (t .fault) 0 z)))
+            g
 
-      value-top : ValueBits x → T (isValue (below ws 0))
-      value-top v = bits-value (below ws 0) top-small (subst (λ (n : ℕ). ValueBits n) top-bits v)
-
-      pub write-nothing : (cost : ℕ) → ValueBits x → x ≡ 2 ^ 29
-          → Leads cost (priced cost (Write P a) s) (stacked r (r .sp - 1)) (without 1 ws) hs wi or
-      unfolding Write
-      write-nothing cost v e =
-          lead-still cost s (stacked r (r .sp - 1))
-          (enough _
-          ∙ need-yes (isValue (below ws 0)) 2 _ (value-top v)
-          ∙ pick-true (isNone (below ws 0)) (stacks s (without 1 ws)) _ (none-bits (below ws 0) top-small (sym top-bits ∙ e)))
-          (less l) (h .hp) (same-lp l)
-
-      pub write-is : (inputs : ℕ) → P .inputs ≡ inputs → ValueBits x → (x ≡ 2 ^ 29 → ⊥)
-          → Write P a s ≡ putting (inputs + a) (below ws 0) s
-      unfolding Write putting outputAt
-      write-is inputs p v n =
-          enough _
-          ∙ need-yes (isValue (below ws 0)) 2 _ (value-top v)
-          ∙ pick-false (isNone (below ws 0)) (stacks s (without 1 ws)) _ (λ t. n (top-bits ∙ bits-none (below ws 0) t))
-          ∙ ap (λ (i : ℕ). putting (i + a) (below ws 0) s) p
+        pub write-leads : (cost : ℕ) → t .fault ≡ 0
+            → Leads cost (priced cost (Write P a) s) (stacked r (r .sp - 1)) (without 1 ws) hs
+            (put wi (inputs + a) (t .n) (spread hs (below ws 0))) or
+        write-leads cost z =
+            lead-wired cost s (stacked r (r .sp - 1))
+            (write-is ∙ pick-true (eqb (t .fault) 0) _ _ (eqb-of (t .fault) 0 z))
+            (less l) (h .hp) (same-lp l)
 
 -- ---- what every state that is reached gives
 

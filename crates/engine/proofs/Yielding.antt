@@ -26,15 +26,14 @@ use Rattle.laws.proofs.Tests.{every-at, and-left, and-right, of-true, to-true, 
 use Rattle.laws.proofs.Words.{bits-raw}
 use Rattle.engine.specs.Fits.{Fit}
 use Rattle.engine.specs.Turns.{Bears, core, Holds, halt, Buffers, buffers, Turned, Meets, priced}
-use Rattle.engine.specs.Outcomes.{given, tried, kept, quotient, whole, cutting, settled, dealt, Deals, Fair, Handled}
+use Rattle.engine.specs.Outcomes.{valued, wrongly, raised, given, tried, kept, quotient, whole, cutting, settled}
+use Rattle.engine.specs.Outcomes.{results, throws, dealing, dealt, Deals, Fair, cycleTable, Handled}
 use Rattle.engine.specs.declared.Ending.the-variants as ending
 use Rattle.engine.specs.declared.prims.Outcome.{Outcome}
-use Rattle.engine.specs.declared.prims.Outcome.the-variants as outcome
 use Rattle.engine.specs.declared.regs.Limits.{Limits}
 use Rattle.engine.specs.declared.regs.Regs.{Regs}
 use Rattle.engine.specs.declared.regs.Turn.{Turn}
 use Rattle.engine.specs.declared.prims.Yielded.{Yielded}
-use Rattle.engine.specs.declared.prims.Yielded.the-variants as yielded
 use Rattle.engine.proofs.Turning.{Leads, stops, turned-as, lead-grown, values-are}
 use Rattle.engine.proofs.Areas.{bears-push, locals-take}
 use Rattle.engine.proofs.Building.{bears-two, built, builds-lead}
@@ -42,55 +41,33 @@ use Rattle.engine.proofs.WordKinds.{cell-no, cell-is, second-is}
 
 -- ---- the table of cycles
 
-abbrev pub table : List ℕ
-table =
-    118
-    ∷ 699
-    ∷ 2973
-    ∷ 125
-    ∷ 243
-    ∷ 122
-    ∷ 124
-    ∷ 122
-    ∷ 124
-    ∷ 116
-    ∷ 116
-    ∷ 124
-    ∷ 206
-    ∷ 1294
-    ∷ 153
-    ∷ 156
-    ∷ 125
-    ∷ 211
-    ∷ 209
-    ∷ 211
-    ∷ 209
-    ∷ 1106
-    ∷ 1112
-    ∷ 356
-    ∷ 959
-    ∷ []
-
 -- The rule, at all entries by one test that is computed.
-cycles-rule : (i : ℕ) → i < 25 → getD table i 0 ≡ getD primitives i noPrimitive .cycles
-unfolding every primitives oneOperand twoOperands
+cycles-rule : (i : ℕ) → i < 25 → getD cycleTable i 0 ≡ getD primitives i noPrimitive .cycles
+unfolding cycleTable every primitives oneOperand twoOperands
 cycles-rule i h =
-    eqb→eq (getD table i 0) (getD primitives i noPrimitive .cycles)
-    (every-at 25 (λ k. eqb (getD table k 0) (getD primitives k noPrimitive .cycles)) tt i h)
+    eqb→eq (getD cycleTable i 0) (getD primitives i noPrimitive .cycles)
+    (every-at 25 (λ k. eqb (getD cycleTable k 0) (getD primitives k noPrimitive .cycles)) tt i h)
 
-pub cycles-one : (a : ℕ) → 1 ≤ a → a ≤ 3 → getD table (a - 1) 0 ≡ prim1 a .cycles
-unfolding prim1 oneOperand primitives
-cycles-one a l m =
-    cycles-rule (a - 1) (omega arith)
-    ∙ ap (λ (p : Primitive). p .cycles) (List·getD-append oneOperand twoOperands noPrimitive (a - 1) (omega arith))
+module _ {l : List ℕ} (e : l ≡ cycleTable) where
+  pub cycles-length : length l ≡ 25
+  unfolding cycleTable
+  cycles-length = ap length e
 
-pub cycles-two : (a : ℕ) → 1 ≤ a → a ≤ 22 → getD table (a + 2) 0 ≡ prim2 a .cycles
-unfolding prim2 oneOperand primitives
-cycles-two a l m =
-    let z : a + 2 ≡ 3 + (a - 1) = omega arith in
-    cycles-rule (a + 2) (omega arith)
-    ∙ ap (λ (i : ℕ). getD primitives i noPrimitive .cycles) z
-    ∙ ap (λ (p : Primitive). p .cycles) (getD-append-add oneOperand twoOperands (a - 1) noPrimitive)
+  pub cycles-one : (a : ℕ) → 1 ≤ a → a ≤ 3 → getD l (a - 1) 0 ≡ prim1 a .cycles
+  unfolding prim1 oneOperand primitives
+  cycles-one a n m =
+      ap (λ (t : List ℕ). getD t (a - 1) 0) e
+      ∙ cycles-rule (a - 1) (omega arith)
+      ∙ ap (λ (p : Primitive). p .cycles) (List·getD-append oneOperand twoOperands noPrimitive (a - 1) (omega arith))
+
+  pub cycles-two : (a : ℕ) → 1 ≤ a → a ≤ 22 → getD l (a + 2) 0 ≡ prim2 a .cycles
+  unfolding prim2 oneOperand primitives
+  cycles-two a n m =
+      let z : a + 2 ≡ 3 + (a - 1) = omega arith in
+      ap (λ (t : List ℕ). getD t (a + 2) 0) e
+      ∙ cycles-rule (a + 2) (omega arith)
+      ∙ ap (λ (i : ℕ). getD primitives i noPrimitive .cycles) z
+      ∙ ap (λ (p : Primitive). p .cycles) (getD-append-add oneOperand twoOperands (a - 1) noPrimitive)
 
 -- ---- one primitive, by number
 
@@ -141,10 +118,10 @@ module _ (p : ℕ → Primitive) (a h x y : ℕ) {q : Yielded} where
   unfolding tried quotient divided
   arm-divided k v f e d z w =
       d
-      ∙ ap (λ (n : ℕ). pick (eqb h intHeader) (pick (eqb y 0) (yielded.Raises 1) (yielded.Value intHeader n)) yielded.Wrong) z
+      ∙ ap (λ (n : ℕ). pick (eqb h intHeader) (pick (eqb y 0) (raised 1) (valued intHeader n)) wrongly) z
       ∙ sym
       (ap (λ (g : Primitive). tried g (eqb h (g .takes)) x y) (e ∙ w)
-      ∙ ap (λ (g : Yielded). pick (eqb h intHeader) g yielded.Wrong)
+      ∙ ap (λ (g : Yielded). pick (eqb h intHeader) g wrongly)
       (given-pick (record { cycles = p k .cycles; takes = intHeader; gives = intHeader; yields = divided f }) (eqb y 0) (raises 1) (value (f x y))))
 
   -- none
@@ -165,15 +142,15 @@ arm-cut a h x {q} o e d z =
     d
     ∙ sym
     (ap (λ (i : ℕ). tried (prim1 i) (eqb h (prim1 i .takes)) x 0) e
-    ∙ ap (λ (g : Yielded). pick (eqb h floatHeader) g yielded.Wrong) (given-cut (toInt x) ∙ ap whole (sym z)))
+    ∙ ap (λ (g : Yielded). pick (eqb h floatHeader) g wrongly) (given-cut (toInt x) ∙ ap whole (sym z)))
 
 -- two operands of different kinds, and of the same
 pub unlike : (p : Primitive) (h g x y : ℕ) → (h ≡ g → ⊥)
-    → yielded.Wrong ≡ tried p (eqb h (p .takes) && eqb g (p .takes)) x y
+    → wrongly ≡ tried p (eqb h (p .takes) && eqb g (p .takes)) x y
 unfolding tried pick
 unlike p h g x y n = by (ℕ-discrete h (p .takes)) (ℕ-discrete g (p .takes))
   where
-    by : Dec (h ≡ p .takes) → Dec (g ≡ p .takes) → yielded.Wrong ≡ tried p (eqb h (p .takes) && eqb g (p .takes)) x y
+    by : Dec (h ≡ p .takes) → Dec (g ≡ p .takes) → wrongly ≡ tried p (eqb h (p .takes) && eqb g (p .takes)) x y
     by (no a) d = rw (ne-eqb h (p .takes) a)
     by (yes a) (no b) = rw (eq-eqb h (p .takes) a, ne-eqb g (p .takes) b)
     by (yes a) (yes b) = absurd (n (a ∙ sym b))
@@ -347,26 +324,18 @@ tame-two a = tames-at twoOperands tames-two (a - 1)
 -- ---- what an application comes to
 
 module _ (r : Regs) where
-  pub fair-fault : (n : ℕ) → Fair r (outcome.Fault n)
-  fair-fault n =
+  pub fair-fault : (o : Outcome) → 0 < o .fault → Fair r o
+  fair-fault o l =
       record {
-        lower = λ low h x e. let z : _≡_ {A = ℕ} 0 1 = cc in absurd (omega arith);
-        number = λ k w e. let z : _≡_ {A = ℕ} 0 1 = cc in absurd (omega arith);
+        lower = λ e f. absurd (let z : ⊥ = omega (arith, l, e) in z);
+        number = λ e f. absurd (let z : ⊥ = omega (arith, l, e) in z);
       }
 
-  pub fair-raises : (e w : ℕ) → e < 65536 → Fair r (outcome.Raises e w)
-  fair-raises e w l =
-      record {
-        lower = λ low h x q. let z : _≡_ {A = ℕ} 0 1 = cc in absurd (omega arith);
-        number = λ k v q. let z : e ≡ k = cc in omega arith;
-      }
+  pub fair-raises : (o : Outcome) → o .raises ≡ true → o .head < 65536 → Fair r o
+  fair-raises o t l = record { lower = λ e f. absurd (true≢false (sym t ∙ f)); number = λ e f. l }
 
-  fair-value : (low h x : ℕ) → r .lp ≤ low → low < r .sp → Fair r (outcome.Value low h x)
-  fair-value low h x l m =
-      record {
-        lower = λ k g y q. let z : low ≡ k = cc in (omega arith, omega arith);
-        number = λ k w e. let z : _≡_ {A = ℕ} 0 1 = cc in absurd (omega arith);
-      }
+  fair-value : (o : Outcome) → o .raises ≡ false → r .lp ≤ o .low → o .low < r .sp → Fair r o
+  fair-value o t l m = record { lower = λ e f. (l, m); number = λ e f. absurd (true≢false (sym f ∙ t)) }
 
   pub fair-tried : (p : Primitive) → Tame p → (ok : Bool) (x y low : ℕ) {o : Outcome} → o ≡ settled low (tried p ok x y)
       → r .lp ≤ low → low < r .sp → Fair r o
@@ -374,10 +343,10 @@ module _ (r : Regs) where
   fair-tried p t ok x y low {o} e l m = subst (Fair r) (sym e) (by ok (p .yields x y) (t .each x y))
     where
       by : (b : Bool) (u : Yield) → ((n : ℕ) → u ≡ raises n → n < 65536)
-          → Fair r (settled low (pick b (given p u) yielded.Wrong))
-      by false u k = fair-fault 2
-      by true (value v) k = fair-value low (p .gives) v l m
-      by true (raises n) k = fair-raises n 536870912 (k n refl)
+          → Fair r (settled low (pick b (given p u) wrongly))
+      by false u k = fair-fault (settled low wrongly) (omega arith)
+      by true (value v) k = fair-value (settled low (valued (p .gives) v)) refl l m
+      by true (raises n) k = fair-raises (settled low (raised n)) refl (k n refl)
 
 yield-deal : (P : Program) (s : State) (n low : ℕ) (p : Primitive) (u : Yield) → low ≡ length (s .stack) - n
     → resulted P s n p u ≡ dealt P (p .cycles) (settled low (given p u)) s
@@ -490,7 +459,7 @@ module _ {r : Regs} {st he : List ℕ} {ws hs : List Word} (h : Holds r st he ws
         ∙ need-no (isValue (below ws 0)) 2 _ (λ t. true≢false (sym (to-true t) ∙ v))
 
     pub raise-is : (w : ℕ) → r .lp < r .sp → isValue (below ws 0) ≡ true → w ≡ bits (below ws 0) → Small (below ws 0)
-        → Raise P b s ≡ dealt P 0 (outcome.Raises b w) s
+        → Raise P b s ≡ throws P 0 b w s
     unfolding Raise
     raise-is w k v e m =
         need-yes (leb 1 (values s)) 1 _ (enough 1 (omega arith))
@@ -546,17 +515,17 @@ bears-exn l hs e w p m b d q h =
 
 module _ {r : Regs} {st he : List ℕ} {ws hs : List Word} (h : Holds r st he ws hs) (wi or : List ℕ) where
   -- a result in the place of the operands
-  pub give-leads : {lim : Limits} (f : Fit lim r) (P : Program) (cost t k low x y : ℕ) → r .lp ≤ low → low < r .sp
+  pub give-leads : {lim : Limits} (f : Fit lim r) (cost t k low x y : ℕ) → r .lp ≤ low → low < r .sp
       → cost ≡ t + k
-      → Leads cost (priced t (dealt P k (outcome.Value low x y)) (core r ws hs wi or false)) (built r (low + 1) (r .hp + 2)) (take low ws ++ ref (length hs) ∷ []) (hs ++ raw x ∷ raw y ∷ []) wi or
-  give-leads f P cost t k low x y l m e =
+      → Leads cost (priced t (results k low x y) (core r ws hs wi or false)) (built r (low + 1) (r .hp + 2)) (take low ws ++ ref (length hs) ∷ []) (hs ++ raw x ∷ raw y ∷ []) wi or
+  give-leads f cost t k low x y l m e =
       builds-lead f h wi or t cost k low (r .hp + 2) (take low ws) (raw x ∷ raw y ∷ []) refl e
       (sym (length-take-le low ws (omega (arith, h .sp)))) (omega (arith, f .fp)) (locals-take (r .fp) low ws (omega (arith, f .fp))) refl
 
   -- an exception with no handler
   pub unhandled-stops : (lim : Limits) (P : Program) (t k e w handler entry : ℕ) {b : Buffers} {q : Turn}
       → Handled P handler entry → handler ≡ 255 → q ≡ halt r (ending.Unhandled e)
-      → Turned lim r b (priced t (dealt P k (outcome.Raises e w)) (core r ws hs wi or false)) q b
+      → Turned lim r b (priced t (throws P k e w) (core r ws hs wi or false)) q b
   unfolding raise
   unhandled-stops lim P t k e w handler entry {b} {q} d z p =
       stops t lim r b (core r ws hs wi or false) (unhandled e)
@@ -564,7 +533,7 @@ module _ {r : Regs} {st he : List ℕ} {ws hs : List Word} (h : Holds r st he ws
 
   pub raise-leads : (P : Program) (cost t k e w handler entry : ℕ) → Handled P handler entry → (handler ≡ 255 → ⊥)
       → cost ≡ t + k
-      → Leads cost (priced t (dealt P k (outcome.Raises e w)) (core r ws hs wi or false)) (entered r handler entry) (thrown (length hs))
+      → Leads cost (priced t (throws P k e w) (core r ws hs wi or false)) (entered r handler entry) (thrown (length hs))
       (hs ++ raw (exnHeader e) ∷ raw 1 ∷ raw w ∷ []) wi or
   unfolding raise locals pick
   raise-leads P cost t k e w handler entry d n c =
@@ -581,15 +550,27 @@ module _ {r : Regs} {st he : List ℕ} {ws hs : List Word} (h : Holds r st he ws
 
 -- ---- the application whole
 
+-- the deed of an outcome that is no fault, by whether it raises
+pub deal-goes : (P : Program) (k : ℕ) (o : Outcome) {b : Bool} → o .fault ≡ 0 → o .raises ≡ b
+    → dealt P k o ≡ dealing P k 0 b (o .low) (o .head) (o .tail)
+deal-goes P k o e f = λ i. dealing P k (e i) (f i) (o .low) (o .head) (o .tail)
+
+pub deal-faults : (P : Program) (k : ℕ) (o : Outcome) → (o .fault ≡ 0 → ⊥) → dealt P k o ≡ (λ s. ends (fault (o .fault)))
+deal-faults P k o n = by (o .fault) n
+  where
+    by : (m : ℕ) → (m ≡ 0 → ⊥) → dealing P k m (o .raises) (o .low) (o .head) (o .tail) ≡ (λ s. ends (fault m))
+    by zero z = absurd (z refl)
+    by (suc m) z = refl
+
 -- an instruction meets what its outcome does
-pub deals-meet : {lim : Limits} {r : Regs} {st he : List ℕ} {k : ℕ} {deed : Program → State → Deed} {o u : Outcome} {q : Turn} {b : Buffers} (P : Program) (t : ℕ) (wi or : List ℕ)
-    → Deals r st he k deed o → o ≡ u
-    → Meets lim r (buffers st he wi or) (priced t (dealt P k u)) q b → Meets lim r (buffers st he wi or) (priced t (deed P)) q b
-deals-meet {r = r} {k = k} P t wi or d e m =
+pub deals-meet : {lim : Limits} {r : Regs} {st he : List ℕ} {k : ℕ} {deed : Program → State → Deed} {o : Outcome} {act : State → Deed} {q : Turn} {b : Buffers} (P : Program) (t : ℕ) (wi or : List ℕ)
+    → Deals r st he k deed o → dealt P k o ≡ act
+    → Meets lim r (buffers st he wi or) (priced t act) q b → Meets lim r (buffers st he wi or) (priced t (deed P)) q b
+deals-meet {r = r} P t wi or d e m =
     record {
       each = λ ws hs h x y.
           turned-as t (core r ws hs wi or false)
-          (d .each P ws hs wi or h x y ∙ ap (λ (z : Outcome). dealt P k z (core r ws hs wi or false)) e)
+          (d .each P ws hs wi or h x y ∙ (λ i. e i (core r ws hs wi or false)))
           (m .each ws hs h x y);
     }
 

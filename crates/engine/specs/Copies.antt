@@ -1,17 +1,19 @@
 -- Copies between a wire and the heap: what stands where one begins, and what it leaves.
 use mathlib.Core.Path.{_≡_}
+use mathlib.Core.Bool.{Bool}
 use mathlib.Core.List.{List, _++_, map}
 use Prim.Native.Nat.{ℕ, _+_, _-_, _*_, _^_, _≤_, _<_}
-use lib.Dec.{T, leb}
+use lib.Dec.{T, leb, eqb}
 use lib.ListN.{length, getD, drop}
 use lib.Seq.{sets}
-use Rattle.hume.specs.Words.{Word, null, bits, isValue}
-use Rattle.hume.specs.Values.{Value, Values, count, good, goods, prefix, prefixes, placed, refers, placedAll, refersAll, fieldsBy, spread, wireOk, isEmpty, setWire}
-use Rattle.hume.specs.State.{State, Deed, need, rewires, without}
+use Rattle.hume.specs.Tests.{pick}
+use Rattle.hume.specs.Words.{Word, null, bits, isNone, isValue}
+use Rattle.hume.specs.Values.{Value, Values, count, good, goods, prefix, prefixes, placed, refers, placedAll, refersAll, fieldsBy, spread, wireOk}
 use Rattle.laws.specs.Sizes.{size, sizes, Small}
 use Rattle.laws.specs.Whole.{Held}
 use Rattle.engine.specs.Turns.{Bears, Smalls}
 use Rattle.engine.specs.declared.regs.Regs.{Regs}
+use Rattle.engine.specs.declared.wiring.Room.{Room}
 
 -- ---- wires
 
@@ -120,17 +122,31 @@ pub record Written (ws : List ℕ) (at : ℕ) (w : List ℕ) (next : ℕ) (w' : 
   pub next-is : next ≡ at + length ws
   pub wires-is : w' ≡ sets w at ws
 
--- The word of the bits x is held by the words that the heap bears.
-pub record HeldWord (r : Regs) (he : List ℕ) (x : ℕ) : Type 0 where
-  pub reading : Readable he x
-  pub long : length (reading .words) ≡ r .hp
+-- The heap bears words that hold the word of the bits x if that is a reference or None.
+pub record Offered (he : List ℕ) (x : ℕ) : Type 0 where
+  pub words : List Word
+  pub word : Word
+  pub bears : Bears he words
+  pub smalls : Smalls words
+  pub small : Small word
+  pub is : x ≡ bits word
+  pub held : T (isValue word) → Held words word
 
--- Write, of the word v to the wire o: "5 Write of a reference to a full wire; 6 value over 64 wire words"
-unfoldable pub putting : ℕ → Word → State → Deed
-putting o v s =
-    need (isEmpty (s .wires) o) 5
-    (need (leb (length (spread (s .heap) v)) 64) 6
-    (rewires s (without 1 (s .stack)) (setWire (s .wires) o (spread (s .heap) v))))
+abbrev pub room : ℕ → ℕ → Room
+room k n = record { fault = k; n = n }
+
+-- the room t if the test passes, else the fault k
+abbrev pub unless : Bool → ℕ → Room → Room
+unless b k t = pick b t (room k 0)
+
+-- The room for the word v on a wire with the count c: "2 wrong kind of word or cell"; "None writes nothing"; "5 Write of a
+-- reference to a full wire; 6 value over 64 wire words"
+unfoldable pub roomOf : List Word → Word → ℕ → Room
+roomOf hs v c =
+    unless (isValue v) 2
+    (pick (isNone v) (room 0 0)
+    (unless (eqb c 0) 5
+    (unless (leb (length (spread hs v)) 64) 6 (room 0 (length (spread hs v))))))
 
 -- The value on top of the stack, if there is one, is held by the words that the heap bears.
 pub record TopHeld (r : Regs) (st he : List ℕ) : Type 0 where

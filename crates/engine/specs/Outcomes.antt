@@ -1,9 +1,9 @@
 -- What a primitive gives and what an application comes to, said of the machine.
 use mathlib.Core.Path.{_≡_}
-use mathlib.Core.Bool.{Bool, false}
+use mathlib.Core.Bool.{Bool, true, false}
 use mathlib.Core.List.{List, [], _∷_}
 use mathlib.Core.Option.{Option, none, some}
-use Prim.Native.Nat.{ℕ, _≤_, _<_}
+use Prim.Native.Nat.{ℕ, zero, suc, _≤_, _<_}
 use lib.Dec.{eqb}
 use lib.ListN.{take}
 use Rattle.limits.specs.Machine.{ends}
@@ -15,51 +15,73 @@ use Rattle.hume.specs.State.{State, Deed, fault, builds, raise}
 use Rattle.hume.specs.Instructions.{CallPrim1, CallPrim2, Raise}
 use Rattle.engine.specs.Turns.{Holds, Smalls, core}
 use Rattle.engine.specs.declared.prims.Yielded.{Yielded}
-use Rattle.engine.specs.declared.prims.Yielded.the-variants as yielded
 use Rattle.engine.specs.declared.prims.Outcome.{Outcome}
-use Rattle.engine.specs.declared.prims.Outcome.the-variants as outcome
 use Rattle.engine.specs.declared.regs.Regs.{Regs}
 
 -- ---- what a primitive gives
 
--- a result's header and payload, or an exception's number
-abbrev pub given : Primitive → Yield → Yielded
-given p (value x) = yielded.Value (p .gives) x
-given p (raises e) = yielded.Raises e
+-- a result's header and payload
+abbrev pub valued : ℕ → ℕ → Yielded
+valued h x = record { fault = 0; raises = false; head = h; tail = x }
 
--- "2 wrong kind of word or cell", else what the primitive yields
+-- "2 wrong kind of word or cell"
+abbrev pub wrongly : Yielded
+wrongly = record { fault = 2; raises = false; head = 0; tail = 0 }
+
+-- an exception's number; the field of a primitive's exceptions is None
+abbrev pub raised : ℕ → Yielded
+raised e = record { fault = 0; raises = true; head = e; tail = 536870912 }
+
+abbrev pub given : Primitive → Yield → Yielded
+given p (value x) = valued (p .gives) x
+given p (raises e) = raised e
+
+-- what the primitive yields, where its operands are of the kind that it takes
 unfoldable pub tried : Primitive → Bool → ℕ → ℕ → Yielded
-tried p ok x y = pick ok (given p (p .yields x y)) yielded.Wrong
+tried p ok x y = pick ok (given p (p .yields x y)) wrongly
 
 -- a value of the header g, where the operands' header h is k
 unfoldable pub kept : ℕ → ℕ → ℕ → ℕ → Yielded
-kept h k g v = pick (eqb h k) (yielded.Value g v) yielded.Wrong
+kept h k g v = pick (eqb h k) (valued g v) wrongly
 
 -- an Int, unless the divisor is 0
 unfoldable pub quotient : ℕ → ℕ → ℕ → Yielded
-quotient h y v = pick (eqb h intHeader) (pick (eqb y 0) (yielded.Raises 1) (yielded.Value intHeader v)) yielded.Wrong
+quotient h y v = pick (eqb h intHeader) (pick (eqb y 0) (raised 1) (valued intHeader v)) wrongly
 
 -- an Int, if the Float has one
 abbrev pub whole : Option ℕ → Yielded
-whole none = yielded.Raises 2
-whole (some n) = yielded.Value intHeader n
+whole none = raised 2
+whole (some n) = valued intHeader n
 
 unfoldable pub cutting : ℕ → Option ℕ → Yielded
-cutting h o = pick (eqb h floatHeader) (whole o) yielded.Wrong
+cutting h o = pick (eqb h floatHeader) (whole o) wrongly
 
 -- ---- what an application comes to
 
--- of a primitive with the lower words below its operands; the field of its exceptions is None
+-- of a primitive with the lower words below its operands
 abbrev pub settled : ℕ → Yielded → Outcome
-settled low (yielded.Value h x) = outcome.Value low h x
-settled low (yielded.Raises e) = outcome.Raises e 536870912
-settled low yielded.Wrong = outcome.Fault 2
+settled low y = record { fault = y .fault; raises = y .raises; low = low; head = y .head; tail = y .tail }
 
--- the deed that it is, in k cycles besides the card's
+-- a fault
+abbrev pub faulted : ℕ → Outcome
+faulted n = record { fault = n; raises = false; low = 0; head = 0; tail = 0 }
+
+-- the cell of a result above the lower words, in k cycles besides the card's
+abbrev pub results : ℕ → ℕ → ℕ → ℕ → State → Deed
+results k low h x s = builds s k (take low (s .stack)) (raw h ∷ raw x ∷ [])
+
+-- the exception e with the field w
+abbrev pub throws : Program → ℕ → ℕ → ℕ → State → Deed
+throws P k e w s = raise P s k e (raw w)
+
+-- the deed that an outcome is, by its fault and whether it raises
+abbrev pub dealing : Program → ℕ → ℕ → Bool → ℕ → ℕ → ℕ → State → Deed
+dealing P k zero false low h x = results k low h x
+dealing P k zero true low e w = throws P k e w
+dealing P k (suc n) b low h x = λ s. ends (fault (suc n))
+
 abbrev pub dealt : Program → ℕ → Outcome → State → Deed
-dealt P k (outcome.Fault n) s = ends (fault n)
-dealt P k (outcome.Value low h x) s = builds s k (take low (s .stack)) (raw h ∷ raw x ∷ [])
-dealt P k (outcome.Raises e w) s = raise P s k e (raw w)
+dealt P k o = dealing P k (o .fault) (o .raises) (o .low) (o .head) (o .tail)
 
 -- whatever state the registers and slices bear, it is the instruction's deed
 pub record Deals (r : Regs) (st he : List ℕ) (k : ℕ) (deed : Program → State → Deed) (o : Outcome) : Type 0 where
@@ -68,8 +90,8 @@ pub record Deals (r : Regs) (st he : List ℕ) (k : ℕ) (deed : Program → Sta
 
 -- its numbers are in range
 pub record Fair (r : Regs) (o : Outcome) : Type 0 where
-  pub lower : (low h x : ℕ) → o ≡ outcome.Value low h x → (r .lp ≤ low) × (low < r .sp)
-  pub number : (e w : ℕ) → o ≡ outcome.Raises e w → e < 65536
+  pub lower : o .fault ≡ 0 → o .raises ≡ false → (r .lp ≤ o .low) × (o .low < r .sp)
+  pub number : o .fault ≡ 0 → o .raises ≡ true → o .head < 65536
 
 -- 19 CallPrim1 a, 20 CallPrim2 a, 21 Raise: "a of .. the primitives is checked in the image (it must exist)"
 pub record Applies (op a : ℕ) : Type 0 where

@@ -34,14 +34,14 @@ ghost use Rattle.hume.specs.Instructions.{CallPrim1, CallPrim2, Raise};
 ghost use Rattle.arith.specs.Cuts.{cut};
 ghost use Rattle.engine.specs.Turns.{Meets, priced, buffers};
 ghost use Rattle.engine.specs.Fits.{Fit, Refs};
-ghost use Rattle.engine.specs.Outcomes.{tried, kept, quotient, cutting, settled, dealt, Deals, Fair, Applies, Tries, Cycles, Handled};
-ghost use Rattle.engine.specs.declared.prims.Outcome.the-variants as outcome;
+ghost use Rattle.engine.specs.Outcomes.{valued, wrongly, raised, tried, kept, quotient, cutting};
+ghost use Rattle.engine.specs.Outcomes.{settled, faulted, results, throws, Deals, Fair, Applies, Tries, cycleTable, Cycles, Handled};
 
 // ---- one primitive
 
 // "cycles from Table 5 .. These are kept as one table of costs by primitive number": those of one operand, then those of two.
-// In 16 bits, since the compiler copies the table where it is read.
-const CYCLES: [u16; 25] = [
+// A run lends it to its steps: the compiler would copy a constant table wherever it is read.
+pub(crate) const CYCLES: [u16; 25] = [
     118,
     699,
     2973,
@@ -69,12 +69,48 @@ const CYCLES: [u16; 25] = [
     959,
 ];
 
-// What a primitive gives: the header and the payload of its result, an exception's number, or that an operand is of another
-// kind than it takes.
-enum Yielded {
-    Value(u32, u32),
-    Raises(u32),
-    Wrong,
+// What a primitive gives: the number of its fault, or 0; and then, if it raises, an exception's number as head and field as
+// tail, else its result's header and payload. No enum, which the compiler would pass through memory.
+struct Yielded {
+    fault: u32,
+    raises: bool,
+    head: u32,
+    tail: u32,
+}
+
+fn value(h: u32, x: u32) -> Yielded
+    ensures { λ r. ⌜ r ≡ valued h x ⌝ }
+{
+    Yielded {
+        fault: 0,
+        raises: false,
+        head: h,
+        tail: x,
+    }
+}
+
+// An operand is of another kind than the primitive takes.
+fn wrong() -> Yielded
+    ensures { λ r. ⌜ r ≡ wrongly ⌝ }
+{
+    Yielded {
+        fault: 2,
+        raises: false,
+        head: 0,
+        tail: 0,
+    }
+}
+
+// A primitive's exceptions have the field None.
+fn raising(e: u32) -> Yielded
+    ensures { λ r. ⌜ r ≡ raised e ⌝ }
+{
+    Yielded {
+        fault: 0,
+        raises: true,
+        head: e,
+        tail: 536870912,
+    }
 }
 
 // A Bool's payload.
@@ -101,11 +137,7 @@ fn either(x: u32, y: u32) -> u32
 fn keep(h: u32, k: u32, g: u32, v: u32) -> Yielded
     ensures { λ r. ⌜ r ≡ kept h k g v ⌝ }
 {
-    if h == k {
-        Yielded::Value(g, v)
-    } else {
-        Yielded::Wrong
-    }
+    if h == k { value(g, v) } else { wrong() }
 }
 
 // "Integer zero divisor: exception 1"
@@ -113,12 +145,12 @@ fn divided(h: u32, y: u32, v: u32) -> Yielded
     ensures { λ r. ⌜ r ≡ quotient h y v ⌝ }
 {
     if h != 131072 {
-        return Yielded::Wrong;
+        return wrong();
     }
     if y == 0 {
-        return Yielded::Raises(1);
+        return raising(1);
     }
-    Yielded::Value(131072, v)
+    value(131072, v)
 }
 
 // "NaN or outside -2^31..2^31-1 raises exception 2"
@@ -126,11 +158,11 @@ fn converted(h: u32, c: Cut) -> Yielded
     ensures { λ r. ⌜ r ≡ cutting h (cut c) ⌝ }
 {
     if h != 196608 {
-        return Yielded::Wrong;
+        return wrong();
     }
     match c {
-        Cut::Whole(n) => Yielded::Value(131072, n),
-        Cut::Out => Yielded::Raises(2),
+        Cut::Whole(n) => value(131072, n),
+        Cut::Out => raising(2),
     }
 }
 
@@ -182,41 +214,57 @@ fn prim2(a: usize, h0: u32, x: u32, h1: u32, y: u32) -> Yielded
     ensures { λ r. ⌜ r ≡ tried (primitive2 a) (eqb h0 (primitive2 a .takes) && eqb h1 (primitive2 a .takes)) x y ⌝ }
 {
     if h0 != h1 {
-        return Yielded::Wrong;
+        return wrong();
     }
     pair(a, h0, x, y)
 }
 
 // ---- an application
 
-// What an application comes to: a fault; a result, with the depth below its operands; or an exception's number and field.
-enum Outcome {
-    Fault(u32),
-    Value(usize, u32, u32),
-    Raises(u32, u32),
+// What an application comes to, told as what a primitive gives, with the depth below a result's operands.
+struct Outcome {
+    fault: u32,
+    raises: bool,
+    low: usize,
+    head: u32,
+    tail: u32,
 }
 
-// A primitive's exceptions have the field None.
 fn settle(y: Yielded, low: usize) -> Outcome
     ensures { λ r. ⌜ r ≡ settled low y ⌝ }
 {
-    match y {
-        Yielded::Value(h, x) => Outcome::Value(low, h, x),
-        Yielded::Raises(e) => Outcome::Raises(e, 536870912),
-        Yielded::Wrong => Outcome::Fault(2),
+    Outcome {
+        fault: y.fault,
+        raises: y.raises,
+        low,
+        head: y.head,
+        tail: y.tail,
+    }
+}
+
+fn faulty(n: u32) -> Outcome
+    ensures { λ r. ⌜ r ≡ faulted n ⌝ }
+{
+    Outcome {
+        fault: n,
+        raises: false,
+        low: 0,
+        head: 0,
+        tail: 0,
     }
 }
 
 // The cycles of a primitive besides the card's, and none for Raise.
-fn cycles(op: usize, a: usize) -> u16
+fn cycles(table: &[u16], op: usize, a: usize) -> u16
     requires { ⌜ Applies op a ⌝ }
+    requires { ⌜ now table ≡ cycleTable ⌝ }
     ensures { λ r. ⌜ Cycles op a r ⌝ }
 {
     if op == 19 {
-        return CYCLES[a - 1];
+        return table[a - 1];
     }
     if op == 20 {
-        return CYCLES[a + 2];
+        return table[a + 2];
     }
     0
 }
@@ -231,11 +279,11 @@ impl Regs {
     {
         let sp = self.sp;
         if sp <= self.lp {
-            return Outcome::Fault(1);
+            return faulty(1);
         }
         let w = stack[sp - 1];
         if w / 268435456 != 1 {
-            return Outcome::Fault(2);
+            return faulty(2);
         }
         let p = (w % 268435456) as usize;
         settle(prim1(a, heap[p], heap[p + 1]), sp - 1)
@@ -250,15 +298,15 @@ impl Regs {
     {
         let sp = self.sp;
         if sp - self.lp < 2 {
-            return Outcome::Fault(1);
+            return faulty(1);
         }
         let w = stack[sp - 1];
         let v = stack[sp - 2];
         if w / 268435456 != 1 {
-            return Outcome::Fault(2);
+            return faulty(2);
         }
         if v / 268435456 != 1 {
-            return Outcome::Fault(2);
+            return faulty(2);
         }
         let p = (w % 268435456) as usize;
         let q = (v % 268435456) as usize;
@@ -274,13 +322,19 @@ impl Regs {
     {
         let sp = self.sp;
         if sp <= self.lp {
-            return Outcome::Fault(1);
+            return faulty(1);
         }
         let w = stack[sp - 1];
         if !is_value(w) {
-            return Outcome::Fault(2);
+            return faulty(2);
         }
-        Outcome::Raises(b, w)
+        Outcome {
+            fault: 0,
+            raises: true,
+            low: 0,
+            head: b,
+            tail: w,
+        }
     }
 
     // By opcode.
@@ -314,7 +368,7 @@ impl Regs {
         requires { ⌜ lim .stack ≤ length (now stack) ⌝ }
         requires { ⌜ lim .heap ≤ length (now heap) ⌝ }
         requires { ⌜ (self .lp ≤ low) × (low < self .sp) ⌝ }
-        ensures { λ r. ⌜ ((P : Program) (t k : ℕ) (wi or : List ℕ) → cost ≡ t + k → Meets lim self (buffers (now (stack .entry)) (now (heap .entry)) wi or) (priced t (dealt P k (outcome.Value low h x))) r (buffers (now (stack .exit)) (now (heap .exit)) wi or)) ⌝ }
+        ensures { λ r. ⌜ ((t k : ℕ) (wi or : List ℕ) → cost ≡ t + k → Meets lim self (buffers (now (stack .entry)) (now (heap .entry)) wi or) (priced t (results k low h x)) r (buffers (now (stack .exit)) (now (heap .exit)) wi or)) ⌝ }
     {
         let hp = self.hp;
         let mut next = self;
@@ -347,7 +401,7 @@ impl Regs {
         requires { ⌜ lim .stack ≤ length (now stack) ⌝ }
         requires { ⌜ lim .heap ≤ length (now heap) ⌝ }
         requires { ⌜ e < 65536 ⌝ }
-        ensures { λ r. ⌜ ((P : Program) (t k : ℕ) (wi or : List ℕ) → Handled P handler entry → cost ≡ t + k → Meets lim self (buffers (now (stack .entry)) (now (heap .entry)) wi or) (priced t (dealt P k (outcome.Raises e w))) r (buffers (now (stack .exit)) (now (heap .exit)) wi or)) ⌝ }
+        ensures { λ r. ⌜ ((P : Program) (t k : ℕ) (wi or : List ℕ) → Handled P handler entry → cost ≡ t + k → Meets lim self (buffers (now (stack .entry)) (now (heap .entry)) wi or) (priced t (throws P k e w)) r (buffers (now (stack .exit)) (now (heap .exit)) wi or)) ⌝ }
     {
         if handler == 255 {
             return self.halt(Ending::Unhandled(e));
@@ -386,6 +440,7 @@ impl Regs {
         b: u32,
         handler: usize,
         entry: usize,
+        table: &[u16],
         stack: &mut [u32],
         heap: &mut [u32],
     ) -> Turn
@@ -396,16 +451,19 @@ impl Regs {
         requires { ⌜ b < 65536 ⌝ }
         requires { ⌜ cost < 65536 ⌝ }
         requires { ⌜ Applies op a ⌝ }
+        requires { ⌜ now table ≡ cycleTable ⌝ }
         ensures { λ r. ⌜ ((P : Program) (wi or : List ℕ) → Handled P handler entry → op ≡ 19 → Meets lim self (buffers (now (stack .entry)) (now (heap .entry)) wi or) (priced cost (CallPrim1 P a)) r (buffers (now (stack .exit)) (now (heap .exit)) wi or)) ⌝ }
         ensures { λ r. ⌜ ((P : Program) (wi or : List ℕ) → Handled P handler entry → op ≡ 20 → Meets lim self (buffers (now (stack .entry)) (now (heap .entry)) wi or) (priced cost (CallPrim2 P a)) r (buffers (now (stack .exit)) (now (heap .exit)) wi or)) ⌝ }
         ensures { λ r. ⌜ ((P : Program) (wi or : List ℕ) → Handled P handler entry → op ≡ 21 → Meets lim self (buffers (now (stack .entry)) (now (heap .entry)) wi or) (priced cost (Raise P b)) r (buffers (now (stack .exit)) (now (heap .exit)) wi or)) ⌝ }
     {
         let o = self.try_any(op, a, b, stack, heap);
-        let time = cost + cycles(op, a) as usize;
-        match o {
-            Outcome::Fault(n) => self.halt(Ending::Fault(n)),
-            Outcome::Value(low, h, x) => self.give(lim, time, low, h, x, stack, heap),
-            Outcome::Raises(e, w) => self.raise(lim, time, e, w, handler, entry, stack, heap),
+        let time = cost + cycles(table, op, a) as usize;
+        if o.fault != 0 {
+            return self.halt(Ending::Fault(o.fault));
         }
+        if o.raises {
+            return self.raise(lim, time, o.head, o.tail, handler, entry, stack, heap);
+        }
+        self.give(lim, time, o.low, o.head, o.tail, stack, heap)
     }
 }

@@ -7,18 +7,17 @@ use super::regs::Regs;
 use super::regs::Turn;
 use super::spreading::cell_length;
 use super::spreading::write_cell;
+use super::words::is_value;
 ghost use mathlib.Core.Path.{_≡_};
 ghost use mathlib.Core.List.{List};
 ghost use Prim.Native.Nat.{ℕ, _+_, _*_, _≤_, _<_};
-ghost use lib.ListN.{length, replicate};
+ghost use lib.ListN.{length, getD, replicate};
 ghost use lib.Seq.{paste};
-ghost use Rattle.hume.specs.Words.{Word, bits};
 ghost use Rattle.hume.specs.Image.{Program};
 ghost use Rattle.hume.specs.Instructions.{CopyInput, Consume, CheckOutputs, Write};
-ghost use Rattle.laws.specs.Sizes.{Small};
 ghost use Rattle.engine.specs.Turns.{Meets, priced, buffers};
 ghost use Rattle.engine.specs.Fits.{Fit};
-ghost use Rattle.engine.specs.Copies.{WireFits, FirstOther, FirstStuck, HeldWord, putting, TopHeld};
+ghost use Rattle.engine.specs.Copies.{WireFits, FirstOther, FirstStuck, Offered, roomOf, TopHeld};
 
 // The 65 words of the wire at the index `at` become 0.
 fn clear_wire(wires: &mut [u32], at: usize)
@@ -69,6 +68,35 @@ fn first_stuck(stack: &[u32], sp: usize, wires: &[u32], inputs: usize, n: usize)
         i += 1;
     }
     i
+}
+
+// Whether a word can be written to a wire: the number of the fault, or 0; and then how many words its value takes, 0 for None.
+struct Room {
+    fault: u32,
+    n: usize,
+}
+
+// The room that the word w finds on the wire at the index `at`. Whether its value fits 64 words is known before anything is
+// written, so that fault 6 leaves every buffer as it was. It takes no registers: those passed on once more go through memory.
+fn room_for(w: u32, at: usize, heap: &[u32], wires: &[u32]) -> Room
+    requires { ⌜ at < length (now wires) ⌝ }
+    requires { ⌜ Offered (now heap) w ⌝ }
+    ensures { λ r. ⌜ ((k : Offered (now (heap .entry)) w) → r ≡ roomOf (k .words) (k .word) (getD (now (wires .entry)) at 0)) ⌝ }
+{
+    if !is_value(w) {
+        return Room { fault: 2, n: 0 };
+    }
+    if w == 536870912 {
+        return Room { fault: 0, n: 0 };
+    }
+    if wires[at] != 0 {
+        return Room { fault: 5, n: 0 };
+    }
+    let n = cell_length(heap, w, 0);
+    if 64 < n {
+        return Room { fault: 6, n: 0 };
+    }
+    Room { fault: 0, n: n }
 }
 
 impl Regs {
@@ -156,7 +184,7 @@ impl Regs {
         turn
     }
 
-    // "39 Write a [-1]: None writes nothing"
+    // "39 Write a [-1]: None writes nothing". The words after those written are zeros already, since the wire was empty.
     pub(crate) fn write(
         self,
         lim: Limits,
@@ -178,53 +206,20 @@ impl Regs {
             return self.halt(Ending::Fault(1));
         }
         let w = stack[sp - 1];
-        if w < 268435456 {
-            return self.halt(Ending::Fault(2));
-        }
-        if 536870912 < w {
-            return self.halt(Ending::Fault(2));
-        }
-        if w == 536870912 {
-            let mut next = self;
-            next.sp = sp - 1;
-            next.pc = self.pc + 1;
-            return self.charge_time(lim, cost, next);
-        }
-        self.put(lim, cost, w, inputs + a, heap, wires)
-    }
-
-    // The word w to the wire o. Whether its value fits 64 words is known before anything is written, so that fault 6 leaves
-    // every buffer as it was; the words after those written are zeros already, since the wire was empty.
-    fn put(
-        self,
-        lim: Limits,
-        cost: usize,
-        w: u32,
-        o: usize,
-        heap: &[u32],
-        wires: &mut [u32],
-    ) -> Turn
-        requires { ⌜ Fit lim self ⌝ }
-        requires { ⌜ self .lp < self .sp ⌝ }
-        requires { ⌜ HeldWord self (now heap) w ⌝ }
-        requires { ⌜ WireFits (now wires) o ⌝ }
-        ensures { λ r. ⌜ ((v : Word) (st or : List ℕ) → w ≡ bits v → Small v → Meets lim self (buffers st (now (heap .entry)) (now (wires .entry)) or) (priced cost (putting o v)) r (buffers st (now (heap .entry)) (now (wires .exit)) or)) ⌝ }
-    {
-        let at = 65 * o;
-        if wires[at] != 0 {
-            return self.halt(Ending::Fault(5));
-        }
-        let n = cell_length(heap, w, 0);
-        if 64 < n {
-            return self.halt(Ending::Fault(6));
+        let at = 65 * (inputs + a);
+        let room = room_for(w, at, heap, wires);
+        if room.fault != 0 {
+            return self.halt(Ending::Fault(room.fault));
         }
         let mut next = self;
-        next.sp = self.sp - 1;
+        next.sp = sp - 1;
         next.pc = self.pc + 1;
         let turn = self.charge_time(lim, cost, next);
         if turn.go {
-            write_cell(heap, w, wires, at + 1);
-            wires[at] = n as u32;
+            if room.n != 0 {
+                write_cell(heap, w, wires, at + 1);
+                wires[at] = room.n as u32;
+            }
         }
         turn
     }

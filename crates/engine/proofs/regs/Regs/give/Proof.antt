@@ -69,11 +69,11 @@ returns c =
     let start = c .before .before .before .before .before in
     let charge = c .before .charge in
     let if1 = c .if1 in
-    λ P t k wi or d.
+    λ t k wi or d.
     record {
       each = λ ws hs h m n.
           settle-yes
-          (give-leads h wi or (start .pre .0) P _ t k _ _ _ (start .pre .1 .1 .1 .0) (start .pre .1 .1 .1 .1) d) _
+          (give-leads h wi or (start .pre .0) _ t k _ _ _ (start .pre .1 .1 .1 .0) (start .pre .1 .1 .1 .1) d) _
           _ (charge .ensures) (if1 .taken)
           (λ a b.
           record {
@@ -95,11 +95,11 @@ returns-2 c =
     let start = c .before .before .before .before .before in
     let charge = c .before .charge in
     let if1 = c .if1 in
-    λ P t k wi or d.
+    λ t k wi or d.
     record {
       each = λ ws hs h m n.
           settle-no
-          (give-leads h wi or (start .pre .0) P _ t k _ _ _ (start .pre .1 .1 .1 .0) (start .pre .1 .1 .1 .1) d) _
+          (give-leads h wi or (start .pre .0) _ t k _ _ _ (start .pre .1 .1 .1 .0) (start .pre .1 .1 .1 .1) d) _
           (charge .ensures) (if1 .left);
     }
 

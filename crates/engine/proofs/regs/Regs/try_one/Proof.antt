@@ -9,11 +9,14 @@ use borrow.Author.Needs.{needs}
 use Rattle.engine.proofs.regs.Regs.try_one.Statement.{statement}
 use Rattle.engine.proofs.regs.Regs.try_one.Tie as tie
 
+faulty-requires : tie.Need-faulty-requires
+faulty-requires c κs = search needs
+
 returns : tie.Need-returns
 returns c =
-    let start = c .before .before .before .before in
-    let if1 = c .if1 in
-    (record { each = λ P ws hs wi or h m n. one-few h wi or P _ (if1 .taken) }, fair-fault _ 1)
+    let faulty = c .faulty in
+    let if1 = c .before .if1 in
+    rw (faulty .ensures) (record { each = λ P ws hs wi or h m n. one-few h wi or P _ (if1 .taken) }, fair-fault _ _ (omega arith))
 
 sub-w : tie.Need-sub-w
 sub-w c = search needs
@@ -24,17 +27,21 @@ mul-w c = search needs
 shared-slice-read-w : tie.Need-shared-slice-read-w
 shared-slice-read-w c = search needs
 
+faulty-requires-2 : tie.Need-faulty-requires-2
+faulty-requires-2 c κs = search needs
+
 returns-2 : tie.Need-returns-2
 returns-2 c =
-    let start = c .before .before .before .before .before .before in
-    let if1 = c .before .before .if1 in
-    let if2 = c .if2 in (
+    let faulty2 = c .faulty2 in
+    let if1 = c .before .before .before .if1 in
+    let if2 = c .before .if2 in
+    rw (faulty2 .ensures) (
       record {
         each = λ P ws hs wi or h m n.
             one-no-ref h wi or P _ _ (reads-below h 0 _ (omega (arith, if1 .left)) refl) (small-below 0 m) (if1 .left)
             (if2 .taken);
       },
-      fair-fault _ 2,
+      fair-fault _ _ (omega arith),
     )
 
 cast-p : tie.Need-cast-p
@@ -93,10 +100,12 @@ pub try-one-spec : {M : Type 1} → statement M
 try-one-spec =
     tie.close
     (tie.spec
+    faulty-requires
     returns
     sub-w
     mul-w
     shared-slice-read-w
+    faulty-requires-2
     returns-2
     cast-p
     mul-prim1

@@ -12,11 +12,14 @@ use Rattle.engine.proofs.regs.Regs.try_two.Tie as tie
 sub-if1 : tie.Need-sub-if1
 sub-if1 c = search needs
 
+faulty-requires : tie.Need-faulty-requires
+faulty-requires c κs = search needs
+
 returns : tie.Need-returns
 returns c =
-    let start = c .before .before .before .before in
-    let if1 = c .if1 in
-    (record { each = λ P ws hs wi or h m n. two-few h wi or P _ (if1 .taken) }, fair-fault _ 1)
+    let faulty = c .faulty in
+    let if1 = c .before .if1 in
+    rw (faulty .ensures) (record { each = λ P ws hs wi or h m n. two-few h wi or P _ (if1 .taken) }, fair-fault _ _ (omega arith))
 
 sub-w : tie.Need-sub-w
 sub-w c = search needs
@@ -36,32 +39,40 @@ mul-v c = search needs
 shared-slice-read-v : tie.Need-shared-slice-read-v
 shared-slice-read-v c = search needs
 
+faulty-requires-2 : tie.Need-faulty-requires-2
+faulty-requires-2 c κs = search needs
+
 returns-2 : tie.Need-returns-2
 returns-2 c =
-    let start = c .before .before .before .before .before .before .before in
-    let if1 = c .before .before .before .if1 in
-    let if2 = c .if2 in (
+    let faulty2 = c .faulty2 in
+    let if1 = c .before .before .before .before .if1 in
+    let if2 = c .before .if2 in
+    rw (faulty2 .ensures) (
       record {
         each = λ P ws hs wi or h m n.
             two-no-first h wi or P _ _ _ (reads-below h 0 _ (omega (arith, if1 .left)) refl)
             (reads-below h 1 _ (omega (arith, if1 .left)) refl) (small-below 0 m) (small-below 1 m) (if1 .left)
             (if2 .taken);
       },
-      fair-fault _ 2,
+      fair-fault _ _ (omega arith),
     )
+
+faulty-requires-3 : tie.Need-faulty-requires-3
+faulty-requires-3 c κs = search needs
 
 returns-3 : tie.Need-returns-3
 returns-3 c =
-    let start = c .before .before .before .before .before .before .before .before in
-    let if1 = c .before .before .before .before .if1 in
-    let if3 = c .if3 in (
+    let faulty3 = c .faulty3 in
+    let if1 = c .before .before .before .before .before .if1 in
+    let if3 = c .before .if3 in
+    rw (faulty3 .ensures) (
       record {
         each = λ P ws hs wi or h m n.
             two-no-second h wi or P _ _ _ (reads-below h 0 _ (omega (arith, if1 .left)) refl)
             (reads-below h 1 _ (omega (arith, if1 .left)) refl) (small-below 0 m) (small-below 1 m) (if1 .left)
             (if3 .taken);
       },
-      fair-fault _ 2,
+      fair-fault _ _ (omega arith),
     )
 
 cast-p : tie.Need-cast-p
@@ -150,6 +161,7 @@ try-two-spec =
     tie.close
     (tie.spec
     sub-if1
+    faulty-requires
     returns
     sub-w
     mul-w
@@ -157,7 +169,9 @@ try-two-spec =
     sub-v
     mul-v
     shared-slice-read-v
+    faulty-requires-2
     returns-2
+    faulty-requires-3
     returns-3
     cast-p
     cast-q

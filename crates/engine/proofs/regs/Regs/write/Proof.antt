@@ -1,23 +1,15 @@
 use mathlib.Core.Path.{refl}
 use native.Mathlib.Omega.{arith}
-use Rattle.hume.specs.State.{below}
-use Rattle.engine.proofs.Turning.{settled, turned-as}
+use Rattle.engine.proofs.Turning.{settle-yes, settle-no}
 use Rattle.engine.proofs.Areas.{bears-without}
-use Rattle.engine.proofs.Writing.{held-word, write-few, write-other, write-nothing, write-is, top-bits, top-small}
+use Rattle.engine.proofs.Writing.{wire-inside, own-offered, top-offered, roomy, cell-fits, put-none, put-some, write-few, write-stops, write-leads}
 use borrow.Author.Needs.{needs}
 use Rattle.engine.proofs.regs.Regs.write.Statement.{statement}
 use Rattle.engine.proofs.regs.Regs.write.Tie as tie
-use Rattle.engine.proofs.regs.Regs.write.Reads as reads
-use Rattle.engine.proofs.regs.Regs.write.Lts as lts
-use Rattle.engine.proofs.regs.Regs.charge_time.Reads as charge-time-reads
-use Rattle.engine.proofs.regs.Regs.halt.Reads as halt-reads
-use Rattle.engine.proofs.regs.Regs.put.Reads as put-reads
 
--- src/wiring.rt:153:13
 halt-requires : tie.Need-halt-requires
 halt-requires c κs = search needs
 
--- src/wiring.rt:153:13
 returns : tie.Need-returns
 returns c =
     let start = c .before .before .before .before .before .before in
@@ -25,111 +17,159 @@ returns c =
     let halt = c .halt in
     λ P or p. record { each = λ ws hs h m n. write-few (start .pre .0) h _ or P _ _ (if1 .taken) (halt .ensures) }
 
--- src/wiring.rt:155:23
 sub-w : tie.Need-sub-w
 sub-w c = search needs
 
--- src/wiring.rt:155:17
 mul-w : tie.Need-mul-w
 mul-w c = search needs
 
--- src/wiring.rt:155:17
 shared-slice-read-w : tie.Need-shared-slice-read-w
 shared-slice-read-w c = search needs
 
--- src/wiring.rt:157:13
+add-at : tie.Need-add-at
+add-at c = search needs
+
+mul-at : tie.Need-mul-at
+mul-at c = search needs
+
+room-for-requires : tie.Need-room-for-requires
+room-for-requires c κs =
+    let start = c .before .before .before .before .before .before .before in
+    let if1 = c .before .before .if1 in
+    let stack-words = c .before .shared-slice-known3 in
+    (omega (arith, wire-inside (start .pre .1 .1 .1)), top-offered (start .pre .1 .1 .0) (if1 .left) (stack-words .given _ .fits))
+
 halt-requires-2 : tie.Need-halt-requires-2
 halt-requires-2 c κs = search needs
 
--- src/wiring.rt:157:13
+same-length : tie.Need-same-length
+same-length c = search needs
+
 returns-2 : tie.Need-returns-2
 returns-2 c =
-    let start = c .before .before .before .before .before .before .before .before in
-    let if1 = c .before .before .before .if1 in
+    let start = c .before .before .before .before .before .before .before .before .before .before .before in
+    let if1 = c .before .before .before .before .before .before .if1 in
+    let room-for = c .before .before .before .room-for in
     let if2 = c .before .if2 in
     let halt2 = c .halt2 in
     λ P or p. record {
       each = λ ws hs h m n.
-          write-other (start .pre .0) h _ or P _ m (if1 .left) refl _ (λ v. let a = v .least in let b = if2 .taken in omega arith) (halt2 .ensures);
+          let k = own-offered h n m (start .pre .1 .1 .0) (if1 .left) in
+          write-stops (start .pre .0) h _ or P _ (if1 .left) _ p (room-for .ensures k) _ (if2 .taken) (halt2 .ensures);
     }
 
--- src/wiring.rt:160:13
-halt-requires-3 : tie.Need-halt-requires-3
-halt-requires-3 c κs = search needs
-
--- src/wiring.rt:160:13
-returns-3 : tie.Need-returns-3
-returns-3 c =
-    let start = c .before .before .before .before .before .before .before .before .before in
-    let if1 = c .before .before .before .before .if1 in
-    let if3 = c .before .if3 in
-    let halt3 = c .halt3 in
-    λ P or p. record {
-      each = λ ws hs h m n.
-          write-other (start .pre .0) h _ or P _ m (if1 .left) refl _ (λ v. let a = v .most in let b = if3 .taken in omega arith) (halt3 .ensures);
-    }
-
--- src/wiring.rt:164:23
 sub-next : tie.Need-sub-next
 sub-next c = search needs
 
--- src/wiring.rt:165:23
 add-next : tie.Need-add-next
 add-next c = search needs
 
--- src/wiring.rt:166:13
 charge-time-requires : tie.Need-charge-time-requires
 charge-time-requires c κs = search needs
 
--- src/wiring.rt:166:13
-returns-4 : tie.Need-returns-4
-returns-4 c =
-    let start = c .before .before .before .before .before .before .before .before .before .before .before in
-    let if1 = c .before .before .before .before .before .before .if1 in
-    let if2 = c .before .before .before .before .if2 in
-    let if3 = c .before .before .before .if3 in
-    let if4 = c .before .before .if4 in
-    let charge-time = c .charge-time in
+add-write-cell : tie.Need-add-write-cell
+add-write-cell c =
+    let start = c .before .before .before .before .before .before .before .before .before .before .before .before .before .before .before .before in
+    omega (arith, wire-inside (start .pre .1 .1 .1), start .good)
+
+write-cell-requires : tie.Need-write-cell-requires
+write-cell-requires c κs =
+    let start = c .before .before .before .before .before .before .before .before .before .before .before .before .before .before .before .before in
+    let if1 = c .before .before .before .before .before .before .before .before .before .before .before .if1 in
+    let stack-words = c .before .before .before .before .before .before .before .before .before .before .shared-slice-known3 in
+    let room-for = c .before .before .before .before .before .before .before .before .room-for in
+    let if4 = c .before .if4 in
+    let k = top-offered (start .pre .1 .1 .0) (if1 .left) (stack-words .given _ .fits) in
+    let y = roomy (room-for .ensures k) (if4 .taken) in
+    cell-fits k (start .pre .1 .1 .1) y
+
+cast-wires : tie.Need-cast-wires
+cast-wires c =
+    let start = c .before .before .before .before .before .before .before .before .before .before .before .before .before .before .before .before .before .before .before .before in
+    let if1 = c .before .before .before .before .before .before .before .before .before .before .before .before .before .before .before .if1 in
+    let stack-words = c .before .before .before .before .before .before .before .before .before .before .before .before .before .before .shared-slice-known3 in
+    let room-for = c .before .before .before .before .before .before .before .before .before .before .before .before .room-for in
+    let if4 = c .before .before .before .before .before .if4 in
+    let k = top-offered (start .pre .1 .1 .0) (if1 .left) (stack-words .given _ .fits) in
+    let y = roomy (room-for .ensures k) (if4 .taken) in
+    omega (arith, y .few, y .long)
+
+mul-wires : tie.Need-mul-wires
+mul-wires c =
+    let start = c .before .before .before .before .before .before .before .before .before .before .before .before .before .before .before .before .before .before .before .before in
+    omega (arith, wire-inside (start .pre .1 .1 .1), start .good)
+
+slice-write-wires : tie.Need-slice-write-wires
+slice-write-wires c =
+    let start = c .before .before .before .before .before .before .before .before .before .before .before .before .before .before .before .before .before .before .before .before in
+    let write-cell = c .before .before .before .write-cell in
+    omega (arith, wire-inside (start .pre .1 .1 .1), write-cell .kept .1 .1 .0)
+
+same-length-2 : tie.Need-same-length-2
+same-length-2 c = search needs
+
+returns-3 : tie.Need-returns-3
+returns-3 c =
+    let start = c .before .before .before .before .before .before .before .before .before .before .before .before .before .before .before .before .before .before .before .before in
+    let if1 = c .before .before .before .before .before .before .before .before .before .before .before .before .before .before .before .if1 in
+    let room-for = c .before .before .before .before .before .before .before .before .before .before .before .before .room-for in
+    let if2 = c .before .before .before .before .before .before .before .before .before .before .if2 in
+    let if4 = c .before .before .before .before .before .if4 in
+    let charge-time = c .before .before .before .before .before .before .before .before .charge-time in
+    let if3 = c .before .before .before .before .before .before .before .if3 in
+    let write-cell = c .before .before .before .write-cell in
     λ P or p. record {
       each = λ ws hs h m n.
-          settled (write-nothing (start .pre .0) h _ or P _ m (if1 .left) refl _ (record { least = if2 .left; most = if3 .left }) (if4 .taken)) _ (charge-time .ensures)
+          let k = own-offered h n m (start .pre .1 .1 .0) (if1 .left) in
+          let y = roomy (room-for .ensures k) (if4 .taken) in
+          settle-yes (write-leads (start .pre .0) h _ or P _ (if1 .left) _ p (room-for .ensures k) _ (if2 .left)) _ _ (charge-time .ensures) (if3 .taken)
           (λ a b. record {
             stack = bears-without _ _ _ (h .stack);
             heap = h .heap;
-            wires = refl;
+            wires = put-some (start .pre .1 .1 .1) y (if4 .taken) (write-cell .ensures (cell-fits k (start .pre .1 .1 .1) y) .wires-is);
             order = refl;
           });
     }
 
--- src/wiring.rt:168:32
-add-put : tie.Need-add-put
-add-put c = search needs
+same-length-3 : tie.Need-same-length-3
+same-length-3 c = search needs
 
--- src/wiring.rt:168:9
-put-requires : tie.Need-put-requires
-put-requires c κs =
-    let start = c .before .before .before .before .before .before .before .before .before .before in
-    let if1 = c .before .before .before .before .before .if1 in
-    let if2 = c .before .before .before .if2 in
+returns-4 : tie.Need-returns-4
+returns-4 c =
+    let start = c .before .before .before .before .before .before .before .before .before .before .before .before .before .before .before in
+    let if1 = c .before .before .before .before .before .before .before .before .before .before .if1 in
+    let room-for = c .before .before .before .before .before .before .before .room-for in
+    let if2 = c .before .before .before .before .before .if2 in
+    let charge-time = c .before .before .before .charge-time in
     let if3 = c .before .before .if3 in
-    ((start .pre .0), ((if1 .left), (held-word (start .pre .1 .1 .0) (if1 .left) refl (record { least = if2 .left; most = if3 .left }), start .pre .1 .1 .1)))
+    let if4 = c .if4 in
+    λ P or p. record {
+      each = λ ws hs h m n.
+          let k = own-offered h n m (start .pre .1 .1 .0) (if1 .left) in
+          settle-yes (write-leads (start .pre .0) h _ or P _ (if1 .left) _ p (room-for .ensures k) _ (if2 .left)) _ _ (charge-time .ensures) (if3 .taken)
+          (λ a b. record {
+            stack = bears-without _ _ _ (h .stack);
+            heap = h .heap;
+            wires = put-none _ _ (if4 .left);
+            order = refl;
+          });
+    }
 
--- src/wiring.rt:144:5
-same-length : tie.Need-same-length
-same-length c = search needs
+same-length-4 : tie.Need-same-length-4
+same-length-4 c = search needs
 
--- src/wiring.rt:144:5
 returns-5 : tie.Need-returns-5
 returns-5 c =
     let start = c .before .before .before .before .before .before .before .before .before .before .before .before .before in
     let if1 = c .before .before .before .before .before .before .before .before .if1 in
-    let if2 = c .before .before .before .before .before .before .if2 in
-    let if3 = c .before .before .before .before .before .if3 in
-    let if4 = c .before .before .before .before .if4 in
-    let put = c .before .before .put in
+    let room-for = c .before .before .before .before .before .room-for in
+    let if2 = c .before .before .before .if2 in
+    let charge-time = c .before .charge-time in
+    let if3 = c .if3 in
     λ P or p. record {
       each = λ ws hs h m n.
-          turned-as _ _ (write-is (start .pre .0) h _ or P (start .args .a) m (if1 .left) refl _ p (record { least = if2 .left; most = if3 .left }) (if4 .left)) (put .ensures (below ws 0) _ or (top-bits (start .pre .0) h (start .args .wires .now) or P (start .args .a) m (if1 .left) refl) (top-small (start .pre .0) h (start .args .wires .now) or P (start .args .a) m (if1 .left) refl) .each ws hs h m n);
+          let k = own-offered h n m (start .pre .1 .1 .0) (if1 .left) in
+          settle-no (write-leads (start .pre .0) h _ or P _ (if1 .left) _ p (room-for .ensures k) _ (if2 .left)) _ (charge-time .ensures) (if3 .left);
     }
 
 pub write-spec : {M : Type 1} → statement M
@@ -141,15 +181,23 @@ write-spec =
     sub-w
     mul-w
     shared-slice-read-w
+    add-at
+    mul-at
+    room-for-requires
     halt-requires-2
+    same-length
     returns-2
-    halt-requires-3
-    returns-3
     sub-next
     add-next
     charge-time-requires
+    add-write-cell
+    write-cell-requires
+    cast-wires
+    mul-wires
+    slice-write-wires
+    same-length-2
+    returns-3
+    same-length-3
     returns-4
-    add-put
-    put-requires
-    same-length
+    same-length-4
     returns-5)
