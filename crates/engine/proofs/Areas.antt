@@ -1,10 +1,9 @@
 -- Areas that bear words: what loads and stores are, of the words.
-use mathlib.Core.Path.{_≡_, refl, sym, ap, _∙_, subst}
-use mathlib.Core.Bool.{Bool, true, false}
+use mathlib.Core.Path.{_≡_, refl, sym, ap, _∙_}
 use mathlib.Core.List.{List, [], _∷_, _++_}
 use Prim.Native.Nat.{ℕ, zero, suc, _+_, _-_, _%_, _≤_, _<_}
 use native.Mathlib.Omega.{arith}
-use native.Mathlib.Decide.{ℕ-discrete, decLe}
+use native.Mathlib.Decide.{ℕ-discrete}
 use lib.ListN.{length, getD, set, take, length-append, length-set, List·getD-append}
 use lib.Seq.{getD-take, length-take-le, getD-set-same, getD-set-other, getD-append-seam}
 use Rattle.hume.specs.Words.{Word, null, bits}

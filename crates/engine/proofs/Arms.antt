@@ -1,6 +1,6 @@
 -- From an instruction's contract to the machine's: what the machine does in a state whose instruction is known.
 use mathlib.Core.Path.{_≡_, refl, sym, ap, _∙_, subst}
-use mathlib.Core.Bool.{Bool, true, false}
+use mathlib.Core.Bool.{false}
 use mathlib.Core.List.{List, [], _∷_}
 use Prim.Native.Nat.{ℕ, zero, suc, _+_, _-_, _≤_, _<_}
 use native.Mathlib.Omega.{arith}
@@ -10,7 +10,7 @@ use Rattle.hume.specs.Words.{Word}
 use Rattle.hume.specs.Image.{Program}
 use Rattle.hume.specs.State.{State, End, Deed}
 use Rattle.hume.specs.Machine.{instruction, deed, charged, price, acts, machine}
-use Rattle.engine.specs.Turns.{core, Holds, Buffers, Turned, Meets, Smalls, priced}
+use Rattle.engine.specs.Turns.{core, Buffers, Turned, Meets, priced}
 use Rattle.engine.specs.declared.regs.Limits.{Limits}
 use Rattle.engine.specs.declared.regs.Regs.{Regs}
 use Rattle.engine.specs.declared.regs.Turn.{Turn}

@@ -1,13 +1,12 @@
 -- The frames of a state that is reached are as a Return needs them.
 use mathlib.Core.Path.{_≡_, sym, ap, _∙_, subst}
 use mathlib.Core.List.{List, _∷_, _++_}
-use Prim.Native.Nat.{ℕ, suc, _+_, _*_, _-_, _/_, _%_, _^_, _≤_, _<_}
+use Prim.Native.Nat.{ℕ, _+_, _*_, _-_, _/_, _%_, _^_, _≤_, _<_}
 use native.Mathlib.Omega.{arith}
-use lib.ListN.{length, getD}
+use lib.ListN.{getD}
 use lib.Seq.{getD-at}
 use Rattle.hume.specs.Words.{Word, null, link}
 use Rattle.hume.specs.Image.{Program}
-use Rattle.hume.specs.State.{locals}
 use Rattle.reach.specs.Sound.{Frames, bottom, frame}
 use Rattle.engine.specs.Fits.{Fit}
 use Rattle.engine.specs.Frames.{Framed}

@@ -1,13 +1,11 @@
 -- What the three charges promise.
-use mathlib.Core.Path.{_≡_, refl, sym, ap}
-use mathlib.Core.Bool.{true, false}
+use mathlib.Core.Path.{_≡_, ap}
+use mathlib.Core.Bool.{false}
 use Prim.Native.Nat.{ℕ, _+_, _-_, _≤_, _<_, max}
-use native.Mathlib.Nat.{max-eq-left, max-eq-right}
 use native.Mathlib.Omega.{arith}
-use Rattle.engine.specs.Turns.{Charging, pays, onward, paid}
+use Rattle.engine.specs.Turns.{Charging, pays, onward}
 use Rattle.engine.specs.declared.regs.Limits.{Limits}
 use Rattle.engine.specs.declared.regs.Regs.{Regs}
-use Rattle.engine.specs.declared.regs.Turn.{Turn}
 
 -- the next registers, charged, with this peak
 abbrev charged-at : Regs → ℕ → Regs → ℕ → Regs

@@ -1,22 +1,22 @@
 -- Facts for the arms of the step: which opcode an arm is of, and what its fields are.
 use mathlib.Core.Path.{_≡_, refl, sym, ap, _∙_, subst}
-use mathlib.Core.Bool.{Bool, true, false}
+use mathlib.Core.Bool.{false}
 use mathlib.Core.List.{List, [], _∷_}
-use Prim.Native.Nat.{ℕ, zero, suc, _+_, _-_, _*_, _≤_, _<_}
+use Prim.Native.Nat.{ℕ, suc, _+_, _-_, _*_, _≤_, _<_}
 use native.Mathlib.Omega.{arith}
 use native.Mathlib.Decide.{ℕ-discrete}
 use lib.Dec.{T, ltb→lt, eqb→eq}
 use borrow.Author.Tests.{ne-eqb}
 use Rattle.hume.specs.Numbers.{canonical}
 use mathlib.Core.Logic.{_⊎_, inl, inr}
-use lib.ListN.{length, getD}
+use lib.ListN.{getD}
 use Rattle.hume.specs.Tests.{pick}
-use Rattle.hume.specs.Image.{Program, program}
+use Rattle.hume.specs.Image.{Program}
 use Rattle.hume.specs.Refusals.{fieldOk, format, formatOf}
 use Rattle.hume.specs.State.{State, Deed}
 use Rattle.hume.specs.Instructions.{mkBlock, MkTuple, MkCon, Consume, MaybeConsume}
 use Rattle.hume.specs.Machine.{instruction, price, charged}
-use Rattle.laws.specs.Accepted.{InstructionFits, CardFits, WiresFit}
+use Rattle.laws.specs.Accepted.{InstructionFits, CardFits}
 use Rattle.engine.specs.Turns.{core, Buffers, Turned, Meets, priced}
 use Rattle.engine.specs.Blocks.{making}
 use Rattle.engine.specs.Outcomes.{Applies}

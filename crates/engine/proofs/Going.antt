@@ -1,22 +1,19 @@
 -- One turn of the loop, of a run that is under way.
 use mathlib.Core.Path.{_≡_, refl, sym, ap, _∙_, subst}
 use mathlib.Core.Bool.{Bool, true, false, true≢false, false≢true}
-use mathlib.Core.List.{List}
 use Prim.Native.Nat.{ℕ, suc, _+_, _-_, _≤_, _<_, max}
 use native.Mathlib.Omega.{arith}
-use lib.ListN.{length}
-use Rattle.limits.specs.Machine.{Act, ends, goes, Run, Ending as Halt, Outcome, own, limit, ended as own-ended, stopped, Inside, charge, limited}
+use Rattle.limits.specs.Machine.{ends, goes, Run, Ending as Halt, own, limit, stopped, Inside, charge, limited}
 use Rattle.limits.specs.Machine.{Time as Time′, Stack as Stack′, Heap as Heap′}
 use Rattle.limits.proofs.Turns.{limited-ends, limited-stops, limited-goes}
 use Rattle.limits.proofs.Steps.{next-goes}
-use Rattle.hume.specs.Words.{Word}
 use Rattle.hume.specs.Image.{program}
 use Rattle.hume.specs.State.{State, End, finished, sp, hp}
 use Rattle.hume.specs.Machine.{machine, acts}
 use Rattle.hume.specs.Call.{Given, outcome}
 use Rattle.laws.proofs.Accepted.{narrow}
 use Rattle.reach.specs.Sound.{Sound, Ranged}
-use Rattle.reach.specs.Demands.{Allowed, Typed, unlimited, begins}
+use Rattle.reach.specs.Demands.{Allowed, Typed, unlimited}
 use Rattle.reach.proofs.Demands.{is-costly}
 use Rattle.reach.proofs.Sound.{sound-kept}
 use Rattle.reach.proofs.Ranged.{ranged-kept}

@@ -1,5 +1,5 @@
 -- The loop: from one turn to the next, and to its end.
-use mathlib.Core.Path.{_≡_, refl, sym, ap, _∙_, subst}
+use mathlib.Core.Path.{_≡_, refl, sym, _∙_}
 use mathlib.Core.Bool.{Bool, true, false, not, true≢false, false≢true}
 use mathlib.Core.List.{List}
 use Prim.Native.Nat.{ℕ, _<_}
@@ -7,7 +7,7 @@ use lib.ListN.{length}
 use Rattle.hume.specs.Image.{program}
 use Rattle.hume.specs.Machine.{machine}
 use Rattle.hume.specs.Call.{Given}
-use Rattle.engine.specs.Turns.{Buffers, buffers, Meets}
+use Rattle.engine.specs.Turns.{Buffers, Meets}
 use Rattle.engine.specs.Running.{Going, Over}
 use Rattle.engine.specs.Ready.{Ready}
 use Rattle.engine.specs.Underway.{Underway, calls}

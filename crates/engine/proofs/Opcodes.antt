@@ -1,5 +1,5 @@
 -- Which instruction an opcode is.
-use mathlib.Core.Path.{_≡_, refl}
+use mathlib.Core.Path.{_≡_}
 use Prim.Native.Nat.{ℕ}
 use Rattle.hume.specs.Image.{Program}
 use Rattle.hume.specs.State.{State}

@@ -1,6 +1,6 @@
 -- Where a call begins, and what its end leaves in the registers.
 use mathlib.Core.Path.{_≡_, refl, sym, ap, _∙_, subst}
-use mathlib.Core.Bool.{Bool, true, false}
+use mathlib.Core.Bool.{false}
 use mathlib.Core.List.{List, []}
 use Prim.Native.Nat.{ℕ, zero, suc, _+_, _-_, _^_, _≤_, _<_}
 use native.Mathlib.Nat.{not-suc-le-zero}
@@ -24,7 +24,7 @@ use Rattle.reach.proofs.Sound.{sound-start}
 use Rattle.reach.proofs.Ranged.{ranged-start}
 use Rattle.reach.proofs.Demands.{left}
 use Rattle.gate.specs.Parts.{LaidOut}
-use Rattle.engine.specs.Turns.{Bears, core, Holds, Buffers, buffers}
+use Rattle.engine.specs.Turns.{Bears, core, Buffers, buffers}
 use Rattle.engine.specs.Fits.{Located, Imaged}
 use Rattle.engine.specs.Tables.{Placed}
 use Rattle.engine.specs.Ready.{Fixing}

@@ -1,27 +1,25 @@
 -- Between two turns the plain facts hold that make every index and sum of the code safe.
-use mathlib.Core.Path.{_≡_, refl, sym, ap, _∙_, subst}
-use mathlib.Core.Bool.{Bool, true, false}
+use mathlib.Core.Path.{_≡_, sym, ap, _∙_, subst}
 use mathlib.Core.List.{List}
 use Prim.Native.Nat.{ℕ, _+_, _-_, _*_, _/_, _%_, _^_, _≤_, _<_}
 use native.Mathlib.Omega.{arith}
 use lib.ListN.{length, getD}
-use Rattle.hume.specs.Words.{Word, null, ref, bits}
+use Rattle.hume.specs.Words.{Word, null, bits}
 use Rattle.hume.specs.Image.{program}
 use Rattle.hume.specs.State.{locals}
 use Rattle.hume.specs.Call.{Given}
 use Rattle.laws.specs.Whole.{Whole}
 use Rattle.laws.specs.Sizes.{Small}
-use Rattle.laws.specs.Accepted.{Accepted}
 use Rattle.laws.proofs.Objects.{whole-inside}
 use Rattle.reach.specs.Sound.{Plain, isNull, isRef, isNone, isRet, isRules, isStatic}
 use Rattle.reach.specs.Demands.{Allowed, Typed}
 use Rattle.reach.proofs.Frames.{lp-le, word-free}
-use Rattle.engine.specs.Turns.{Bears, Holds, Buffers, Smalls}
-use Rattle.engine.specs.Fits.{Fit, Refs, Imaged, Located}
+use Rattle.engine.specs.Turns.{Buffers, Smalls}
+use Rattle.engine.specs.Fits.{Fit, Refs, Located}
 use Rattle.engine.specs.Ready.{Fixing, Ready}
 use Rattle.engine.specs.declared.stepping.Fixed.{Fixed}
 use Rattle.engine.proofs.Backing.{frames-framed}
-use Rattle.engine.proofs.Granted.{frames-refs, frames-blocks}
+use Rattle.engine.proofs.Granted.{frames-blocks}
 use Rattle.engine.proofs.Writing.{top-sound}
 use Rattle.engine.specs.Running.{Bounds, Going}
 use Rattle.engine.specs.declared.regs.Limits.{Limits}

@@ -1,16 +1,15 @@
 -- The report of a run that is over, with both areas wiped above their words, is the answer to the call.
 use mathlib.Core.Path.{_≡_, refl, sym, ap, _∙_}
-use mathlib.Core.Bool.{Bool}
 use mathlib.Core.List.{List, _++_}
 use Prim.Native.Nat.{ℕ, _-_}
 use lib.ListN.{length, take, replicate}
-use Rattle.limits.specs.Machine.{Ending as Halt, own, limit, Outcome}
+use Rattle.limits.specs.Machine.{Ending as Halt, own, limit}
 use Rattle.limits.specs.Machine.{Time as Time′, Stack as Stack′, Heap as Heap′}
-use Rattle.hume.specs.State.{State, End, finished, blocked, fault, noRule, unhandled}
+use Rattle.hume.specs.State.{End, finished, blocked, fault, noRule, unhandled}
 use Rattle.hume.specs.Call.{Given, Answer, endingOf, detailOf, figuresOf, area, outcome, ran, refused}
 use Rattle.gate.specs.Verdicts.{number}
 use Rattle.gate.specs.declared.image.Verdict.{Verdict}
-use Rattle.engine.specs.Turns.{Bears, Buffers, buffers}
+use Rattle.engine.specs.Turns.{Buffers, buffers}
 use Rattle.engine.specs.Running.{runOf, haltOf, Over}
 use Rattle.engine.specs.Reports.{endingNumber, detailNumber, reported, told}
 use Rattle.engine.specs.Endings.{refusal, ending}

@@ -7,9 +7,9 @@ use native.Mathlib.Omega.{arith}
 use lib.ListN.{length, getD, length-append}
 use Rattle.limits.specs.Machine.{Act, ends, goes}
 use Rattle.hume.specs.Words.{Word, null, bits}
-use Rattle.hume.specs.State.{State, End, Effect, Deed, leaving, locals, values, lp, sp, hp, below}
-use Rattle.hume.specs.Machine.{charged, becomes}
-use Rattle.engine.specs.Turns.{Bears, plain, core, Holds, endOf, halt, onward, paid, Charging, Buffers, buffers, Goes, Turned, ended, went}
+use Rattle.hume.specs.State.{State, End, Deed, leaving, locals, values, lp, sp, hp, below}
+use Rattle.hume.specs.Machine.{charged}
+use Rattle.engine.specs.Turns.{Bears, plain, core, Holds, endOf, halt, Charging, Buffers, Turned, ended, went}
 use Rattle.engine.specs.Turns as turns
 use Rattle.engine.specs.declared.regs.Limits.{Limits}
 use Rattle.engine.specs.declared.regs.Regs.{Regs}

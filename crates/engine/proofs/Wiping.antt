@@ -1,10 +1,10 @@
 -- Zeros above the words: what a wiped area is.
-use mathlib.Core.Path.{_≡_, refl, sym, ap, _∙_, subst}
+use mathlib.Core.Path.{_≡_, refl, sym, ap, _∙_}
 use mathlib.Core.List.{List, [], _∷_, _++_, map, append-nil, append-assoc}
 use Prim.Native.Nat.{ℕ, zero, suc, _+_, _-_, _≤_, _<_}
 use native.Mathlib.Omega.{arith}
 use lib.ListN.{length-drop, take-append-drop, length, getD, set, take, drop, replicate, length-append, length-replicate, length-map, replicate-append-replicate, List·getD-map}
-use lib.Seq.{length-take-le, drop-cons, set-at, append-snoc, drop-length, ext-getD, getD-take}
+use lib.Seq.{length-take-le, drop-cons, set-at, drop-length, ext-getD, getD-take}
 use Rattle.hume.specs.Words.{Word, null, bits}
 use Rattle.hume.specs.Call.{area}
 use Rattle.engine.specs.Turns.{Bears}

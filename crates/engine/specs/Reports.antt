@@ -1,5 +1,4 @@
 -- What a call returns, as document 01's numbers.
-use mathlib.Core.List.{List}
 use Prim.Native.Nat.{ℕ}
 use Rattle.hume.specs.Call.{Figures, Answer}
 use Rattle.gate.specs.Verdicts.{number}

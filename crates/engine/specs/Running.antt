@@ -1,16 +1,16 @@
 -- Between two turns of a run, and at its end: what the registers and buffers bear, said of the outcome of the call.
 use mathlib.Core.Path.{_≡_}
-use mathlib.Core.Bool.{Bool, true, false}
+use mathlib.Core.Bool.{Bool, false}
 use mathlib.Core.List.{List}
 use Prim.Native.Nat.{ℕ, _-_, _^_, _≤_, _<_}
-use Rattle.limits.specs.Machine.{Run, Ending as Halt, own, limit, Outcome, limited}
+use Rattle.limits.specs.Machine.{Run, Ending as Halt, own, limit, limited}
 use Rattle.limits.specs.Machine.{Time as Time′, Stack as Stack′, Heap as Heap′}
 use Rattle.hume.specs.Words.{Word}
 use Rattle.hume.specs.Image.{program}
 use Rattle.hume.specs.State.{State, End}
 use Rattle.hume.specs.Call.{Given, outcome}
 use Rattle.reach.specs.Sound.{Sound, Ranged}
-use Rattle.reach.specs.Demands.{unlimited, begins}
+use Rattle.reach.specs.Demands.{unlimited}
 use Rattle.engine.specs.Turns.{core, Holds, Buffers, endOf}
 use Rattle.engine.specs.declared.Ending.{Ending}
 use Rattle.engine.specs.declared.Ending.the-variants as ending

@@ -3,7 +3,6 @@ use mathlib.Core.Path.{_≡_, refl, ap, _∙_}
 use mathlib.Core.List.{List, [], _∷_}
 use Prim.Native.Nat.{ℕ, zero, suc}
 use lib.ListN.{set}
-use lib.Seq.{sets}
 use Rattle.hume.specs.Call.{Figures, Answer}
 use Rattle.engine.specs.Reports.{endingNumber, detailNumber, reported, told}
 use Rattle.engine.specs.declared.Report.{Report}

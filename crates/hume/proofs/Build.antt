@@ -1,6 +1,6 @@
 -- Images and calls for worked sums, written out in bytes.
 use mathlib.Core.List.{List, [], _∷_, _++_}
-use Prim.Native.Nat.{ℕ, zero, suc, _+_, _*_, _/_, _%_}
+use Prim.Native.Nat.{ℕ, _+_, _*_, _/_, _%_}
 use lib.ListN.{length, replicate}
 use Rattle.limits.specs.Machine.{Limits}
 use Rattle.hume.specs.Call.{Given}

@@ -5,8 +5,8 @@ use Prim.Native.Nat.{ℕ, _+_, _*_}
 use lib.ListN.{replicate}
 use Rattle.hume.specs.Call.{Given}
 use Rattle.hume.proofs.Build.{Set, Sum, sum, image, entered, plain, limits, given}
-use Rattle.hume.proofs.Shown.{counted, seen}
-use Rattle.hume.proofs.Assembly.{mkBool, mkInt, mkFloat, mkNone, mkTuple, mkCon, push, pop, slide, copy, copyArg, createFrame, pushVar, makeVar, goto, ifTrue, call, returns, callPrim1, callPrim2, raises, startMatches, matchRule, matchedRule, matchNone, matchAvailable, matchBool, matchInt, matchFloat, matchTuple, matchCon, matchExn, unpack, reorder, copyInput, consume, maybeConsume, checkOutputs, write, schedule}
+use Rattle.hume.proofs.Shown.{counted}
+use Rattle.hume.proofs.Assembly.{mkBool, mkInt, mkFloat, mkNone, mkTuple, push, pop, slide, copy, copyArg, createFrame, pushVar, makeVar, goto, ifTrue, call, returns, callPrim1, callPrim2, raises, startMatches, matchRule, matchedRule, matchNone, matchAvailable, matchInt, matchFloat, unpack, copyInput, consume, maybeConsume, checkOutputs, write, schedule}
 
 -- time enough for any of these, and little enough that a wrong machine, which may go round, ends soon
 abbrev run : List ℕ → List ℕ → List ℕ → Given

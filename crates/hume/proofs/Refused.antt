@@ -5,9 +5,9 @@ use mathlib.Core.List.{List, [], _∷_, _++_, map}
 use Prim.Native.Nat.{ℕ, _+_, _*_, _/_, _%_}
 use lib.ListN.{replicate, set, take}
 use Rattle.limits.specs.Machine.{Limits}
-use Rattle.hume.specs.Call.{Given, Answer, answer}
-use Rattle.hume.proofs.Build.{Set, Sum, sum, instr, two, four, flat, table, headed, image, entered, plain, limits, given, capped}
-use Rattle.hume.proofs.Shown.{counted, seen, told}
+use Rattle.hume.specs.Call.{Given, answer}
+use Rattle.hume.proofs.Build.{Sum, sum, four, image, plain, limits, given, capped}
+use Rattle.hume.proofs.Shown.{counted, told}
 use Rattle.hume.proofs.Assembly.{mkBool, mkInt, push, goto, ifTrue, call, callPrim1, callPrim2, copyInput, write, schedule}
 
 -- turned away: the number, and all figures 0

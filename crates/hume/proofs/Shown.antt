@@ -15,7 +15,7 @@ use Rattle.hume.specs.State.{locals, lp, values, below, downward, withou
 use Rattle.hume.specs.Instructions.{MkBool, MkInt, MkFloat, MkNone, mkBlock, MkTuple, MkCon, Push, Pop, Slide, Copy, argument, hasArgument, CopyArg, CreateFrame, hasLocal, PushVar, MakeVar, Goto, If, Call, saved, frameOk, Return, yielded, operand, operandOk, CallPrim1, CallPrim2, Raise}
 use Rattle.hume.specs.Instructions.{StartMatches, MatchRule, MatchedRule, MatchNone, MatchAvailable, matches, cellIs, MatchBool, MatchInt, MatchFloat, MatchTuple, MatchCon, MatchExn, isTupleOrConstr, Unpack, moveLast, reordered, Reorder, CopyInput, Consume, MaybeConsume, outputAt, holdsUp, checked, CheckOutputs, Write, Schedule, instructions}
 use Rattle.hume.specs.Machine.{instruction, deed, charged, price, acts, machine, start}
-use Rattle.hume.specs.Call.{Given, Figures, Answer, endingOf, detailOf, figuresOf, area, outcome, ran, refused, lentRefusal, firstOf, refusal, answerBy, answer}
+use Rattle.hume.specs.Call.{Given, Answer, endingOf, detailOf, figuresOf, area, outcome, ran, refused, lentRefusal, firstOf, refusal, answerBy, answer}
 use Rattle.hume.specs.Sheet.{imageReadable, imageRead, sheetRead, sheetWord, sheetWords, sheetLength, sheetOk, counting, firstOrder, sheetGiven, sheetRefusal, programRefusal, digits, decimal, figuresLine, refusedLine, printedBy, printed}
 
 -- the refusal, the eight figures, the words in use of both areas, the wires and the order

@@ -2,9 +2,9 @@
 use mathlib.Core.List.{List, [], _∷_, _++_, map}
 use Prim.Native.Nat.{ℕ, zero, suc, _+_, _-_}
 use lib.ListN.{length, replicate}
-use Rattle.limits.specs.Machine.{Run, fresh, Limits, Limit, Time, Stack, Heap, Ending, own, limit, Outcome, limited}
+use Rattle.limits.specs.Machine.{fresh, Limits, Time, Stack, Heap, Ending, own, limit, Outcome, limited}
 use Rattle.hume.specs.Words.{Word, bits}
-use Rattle.hume.specs.Image.{Program, program}
+use Rattle.hume.specs.Image.{program}
 use Rattle.hume.specs.Refusals.{unless, imageRefusal, cardOk, limitsOk, wiresOk, orderOk}
 use Rattle.hume.specs.State.{State, sp, hp, End, finished, blocked, fault, noRule, unhandled}
 use Rattle.hume.specs.Machine.{machine, start}

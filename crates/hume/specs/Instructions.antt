@@ -4,16 +4,16 @@ use mathlib.Core.List.{List, [], _∷_, _++_}
 use Prim.Native.Nat.{ℕ, zero, suc, _+_, _-_, _*_, _/_, _%_}
 use lib.Dec.{leb, ltb, eqb}
 use lib.ListN.{length, getD, set, take, drop, replicate}
-use Rattle.limits.specs.Machine.{Act, ends, goes}
-use Rattle.hume.specs.Tests.{pick, every, all}
-use Rattle.hume.specs.Words.{Word, null, none, ref, ret, rules, static, link, raw, isNull, isRef, isNone, isValue}
+use Rattle.limits.specs.Machine.{ends, goes}
+use Rattle.hume.specs.Tests.{pick, all}
+use Rattle.hume.specs.Words.{Word, null, none, ret, rules, static, link, raw, isNull, isRef, isNone, isValue}
 use Rattle.hume.specs.Words.{boolHeader, intHeader, floatHeader, tupleHeader, constrHeader, exnHeader}
 use Rattle.hume.specs.Numbers.{canonical}
 use Rattle.hume.specs.Primitives.{Yield, value, raises, Primitive, prim1, prim2}
 use Rattle.hume.specs.Values.{placed, refers, row, first, spread, isEmpty, wireWords, setWire}
 use Rattle.hume.specs.Image.{Program, orderAt}
 use Rattle.hume.specs.State.{Regs, State, sp, hp, locals, lp, values, below, downward, without, numberAt, isCell, second, ruleAt, ruleCount}
-use Rattle.hume.specs.State.{End, blocked, fault, Effect, Deed, need, at, next, leaving, turns, stacks, builds, rewires, fails, raise}
+use Rattle.hume.specs.State.{blocked, Deed, need, at, next, leaving, turns, stacks, builds, rewires, fails, raise}
 
 -- ---- heap objects
 

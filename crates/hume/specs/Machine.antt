@@ -2,10 +2,10 @@
 use mathlib.Core.Bool.{Bool, true, false}
 use mathlib.Core.List.{List, [], _∷_, _++_}
 use Prim.Native.Nat.{ℕ, _+_, _-_}
-use lib.ListN.{length, getD}
+use lib.ListN.{getD}
 use Rattle.limits.specs.Machine.{Act, ends, goes, Machine}
 use Rattle.hume.specs.Image.{Program}
-use Rattle.hume.specs.State.{Regs, State, sp, hp, End, finished, fault, Effect, Deed}
+use Rattle.hume.specs.State.{State, sp, hp, End, finished, fault, Effect, Deed}
 use Rattle.hume.specs.Instructions.{Instruction, instructions}
 
 -- No accepted image has an opcode outside the table, and no state that is reached has its pc outside the image.

@@ -1,11 +1,11 @@
 -- Document 01, "What is turned away, first that applies".
-use mathlib.Core.Bool.{Bool, true, false, not, _&&_, _||_}
+use mathlib.Core.Bool.{Bool, true, false, _&&_, _||_}
 use mathlib.Core.List.{List, [], _∷_}
-use Prim.Native.Nat.{ℕ, zero, suc, _+_, _-_, _*_}
+use Prim.Native.Nat.{ℕ, _+_, _-_, _*_}
 use lib.Dec.{leb, ltb, eqb}
 use lib.ListN.{length, getD, take, drop}
-use Rattle.hume.specs.Tests.{pick, every, all}
-use Rattle.hume.specs.Image.{Program, program, totalLength, version, rulesetAt, codeAt, orderAt}
+use Rattle.hume.specs.Tests.{every, all}
+use Rattle.hume.specs.Image.{Program, program, totalLength, version, codeAt, orderAt}
 use Rattle.hume.specs.Values.{wireOk}
 
 -- ---- which fields an instruction has, and what may stand in them

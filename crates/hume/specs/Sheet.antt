@@ -1,10 +1,9 @@
 -- The program: from the bytes of standard input to the bytes of standard output.
-use mathlib.Core.Bool.{Bool, true, false, _&&_, _||_}
+use mathlib.Core.Bool.{Bool, _&&_, _||_}
 use mathlib.Core.List.{List, [], _∷_, _++_}
 use Prim.Native.Nat.{ℕ, zero, suc, _+_, _-_, _*_, _/_, _%_}
 use lib.Dec.{leb, ltb, eqb}
 use lib.ListN.{length, take, drop, replicate}
-use Rattle.limits.specs.Machine.{Limits}
 use Rattle.hume.specs.Tests.{pick}
 use Rattle.hume.specs.Image.{Program, program, full}
 use Rattle.hume.specs.Refusals.{unless, imageRefusal}

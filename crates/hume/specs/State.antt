@@ -1,13 +1,13 @@
 -- Document 01, "Words and registers" and "How a run ends": the machine's state, what is read of it, and what an instruction
 -- may do.
-use mathlib.Core.Bool.{Bool, true, false, not, _&&_, _||_}
+use mathlib.Core.Bool.{Bool, true, false, _&&_, _||_}
 use mathlib.Core.List.{List, [], _∷_, _++_}
 use Prim.Native.Nat.{ℕ, zero, suc, _+_, _-_, _*_, _%_}
-use lib.Dec.{leb, ltb, eqb}
-use lib.ListN.{length, getD, take, drop, replicate}
+use lib.Dec.{ltb, eqb}
+use lib.ListN.{length, getD, take}
 use Rattle.limits.specs.Machine.{Act, ends, goes}
 use Rattle.hume.specs.Tests.{pick}
-use Rattle.hume.specs.Words.{Word, null, none, ref, link, raw, bits, isRef, isNone, isValue, exnHeader}
+use Rattle.hume.specs.Words.{Word, null, ref, link, raw, bits, isRef, exnHeader}
 use Rattle.hume.specs.Image.{Program, orderAt}
 
 -- ---- the state

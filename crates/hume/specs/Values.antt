@@ -1,12 +1,12 @@
 -- Document 01, "Lent besides the image": a value and how a wire writes it; "The instructions": how a copy places it on the
 -- heap, and how what a heap word stands for is spread out in prefix form.
-use mathlib.Core.Bool.{Bool, true, false, not, cond, _&&_, _||_}
+use mathlib.Core.Bool.{Bool, true, false, not, _&&_, _||_}
 use mathlib.Core.List.{List, [], _∷_, _++_}
 use Prim.Native.Nat.{ℕ, zero, suc, _+_, _-_, _*_, _/_, _%_, _^_}
 use lib.Dec.{leb, ltb, eqb}
 use lib.ListN.{length, getD, take, drop, replicate}
-use Rattle.hume.specs.Tests.{pick, all, same}
-use Rattle.hume.specs.Words.{Word, word, none, ref, raw, bits, isRef, boolHeader, intHeader, floatHeader, tupleHeader, noneHeader}
+use Rattle.hume.specs.Tests.{all, same}
+use Rattle.hume.specs.Words.{Word, none, ref, raw, bits, isRef, boolHeader, intHeader, floatHeader, tupleHeader, noneHeader}
 
 -- ---- a value
 

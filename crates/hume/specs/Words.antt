@@ -1,6 +1,6 @@
 -- Document 01, "Words and registers": the words of the stack and the heap. The unlimited machine has the same words with
 -- payloads of any size, so a word is its type and its payload; `bits` is its 32-bit form.
-use mathlib.Core.Bool.{Bool, true, false, _&&_, _||_}
+use mathlib.Core.Bool.{Bool, _&&_, _||_}
 use Prim.Native.Nat.{ℕ, _+_, _*_, _/_, _%_, _^_}
 use lib.Dec.{eqb}
 

@@ -1,15 +1,14 @@
 -- What the refusals' tests say, once they pass: stated once, as a law for each.
-use mathlib.Core.Path.{_≡_, refl, sym, ap, _∙_, subst}
-use mathlib.Core.Bool.{Bool, true, false, not, _&&_, _||_}
+use mathlib.Core.Path.{_≡_, _∙_}
+use mathlib.Core.Bool.{Bool, _&&_, _||_}
 use mathlib.Core.List.{List, [], _∷_}
-use Prim.Native.Nat.{ℕ, zero, suc, _+_, _-_, _*_, _^_, _≤_, _<_}
-use native.Mathlib.Decide.{decLe}
+use Prim.Native.Nat.{ℕ, _+_, _-_, _*_, _^_, _≤_, _<_}
 use native.Mathlib.Omega.{arith}
 use lib.Dec.{T, leb, ltb, eqb, leb→le, ltb→lt, eqb→eq}
-use lib.ListN.{length, getD, take, drop, List·getD-eq-default}
-use Rattle.hume.specs.Tests.{pick, every, all}
-use Rattle.hume.specs.Image.{Program, program, byte, half, full, codeAt, rulesetAt, orderAt}
-use Rattle.hume.specs.Refusals.{opcodeOk, format, fieldOk, formatOf, countsOk, rulesetOk, instructionOk, lastOk, codeOk, cardOk, wiresOk, permutation, orderOf, orderOk}
+use lib.ListN.{length, getD}
+use Rattle.hume.specs.Tests.{every}
+use Rattle.hume.specs.Image.{Program, program, byte, half, full, codeAt, orderAt}
+use Rattle.hume.specs.Refusals.{opcodeOk, format, fieldOk, formatOf, countsOk, rulesetOk, instructionOk, codeOk, cardOk, wiresOk, permutation, orderOf, orderOk}
 use Rattle.hume.specs.Values.{wireOk}
 use Rattle.laws.specs.Accepted.{Bytes, Handler, absent, present, InstructionFits, Accepted, Narrow, CardFits, WiresFit, OrderFits}
 use Rattle.laws.proofs.Tests.{and-left, and-right, OneOf, one, other, or-cases, every-at, all-at}

@@ -1,11 +1,10 @@
 -- Laws of words and of their 32 bits.
-use mathlib.Core.Path.{_≡_, refl, sym, ap, _∙_, subst}
-use mathlib.Core.Bool.{Bool, true, false}
-use Prim.Native.Nat.{ℕ, zero, suc, _+_, _*_, _/_, _%_, _^_, _≤_, _<_}
+use mathlib.Core.Path.{_≡_, refl, _∙_}
+use Prim.Native.Nat.{ℕ, _+_, _*_, _/_, _%_, _^_, _≤_, _<_}
 use native.Mathlib.Omega.{arith}
 use lib.Dec.{T, eqb, eqb→eq}
-use Rattle.hume.specs.Words.{Word, word, bits, null, ref, none, raw, isNull, isRef, isNone, isValue}
-use Rattle.laws.proofs.Tests.{and-left, and-right, and-both, OneOf, one, other, or-cases, or-left, or-right, eqb-of}
+use Rattle.hume.specs.Words.{Word, bits, null, ref, none, raw, isNull, isRef, isNone, isValue}
+use Rattle.laws.proofs.Tests.{and-left, and-right, OneOf, one, other, or-cases}
 
 pub word-eq : (v w : Word) → v .type ≡ w .type → v .payload ≡ w .payload → v ≡ w
 word-eq v w t p = λ i. record { type = t i; payload = p i }

@@ -1,12 +1,11 @@
 -- What an accepted input gives to whoever works with it, so that nothing is tested again.
 use mathlib.Core.Path.{_≡_}
 use mathlib.Core.List.{List}
-use mathlib.Core.Bool.{Bool}
 use Prim.Native.Nat.{ℕ, _+_, _-_, _*_, _^_, _≤_, _<_}
 use lib.Dec.{T}
 use lib.ListN.{length, getD}
 use Rattle.hume.specs.Image.{Program, byte, orderAt}
-use Rattle.hume.specs.Refusals.{Fields, fieldOk, formatOf, permutation, orderOf, lastOk}
+use Rattle.hume.specs.Refusals.{fieldOk, formatOf, permutation, orderOf, lastOk}
 use Rattle.hume.specs.Values.{wireOk}
 
 -- The bytes of an image are bytes.

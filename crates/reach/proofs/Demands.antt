@@ -1,14 +1,13 @@
 -- The demands hold of every call.
-use mathlib.Core.Path.{_≡_, refl, sym, ap, _∙_, subst}
+use mathlib.Core.Path.{_≡_, refl, _∙_}
 use mathlib.Core.Bool.{Bool, true, false, _&&_, _||_}
-use mathlib.Core.Option.{some}
 use Prim.Native.Nat.{ℕ, zero, suc, _+_, _≤_}
 use native.Mathlib.Nat.{zero-add}
 use native.Mathlib.Omega.{arith}
 use lib.Dec.{T, leb, ltb, eqb, leb→le, eqb→eq}
 use mathlib.Core.List.{List}
 use lib.ListN.{length}
-use Rattle.limits.specs.Machine.{goes, Run, fresh, Limits, Inside, charge, limited}
+use Rattle.limits.specs.Machine.{goes, Run, Inside, charge, limited}
 use Rattle.limits.specs.Demand3.{Costly, Growing}
 use Rattle.limits.proofs.Steps.{next-goes}
 use Rattle.limits.proofs.Promise.{limited-meets, promise-unique}
@@ -21,7 +20,6 @@ use Rattle.hume.specs.Refusals.{unless, lengthOk, versionOk, countsOk, codeOk, 
 use Rattle.hume.specs.State.{State, sp, hp}
 use Rattle.hume.specs.Machine.{machine, start}
 use Rattle.hume.specs.Call.{Given, refusal, firstOf, lentRefusal, outcome, answer, answerBy}
-use Rattle.laws.specs.Accepted.{Accepted, Narrow, CardFits, WiresFit, OrderFits, Bytes, Words32}
 use Rattle.laws.proofs.Tests.{and-left, and-right}
 use Rattle.laws.proofs.Accepted.{accepted, narrow, card-fits, wires-fit, order-fits}
 use Rattle.reach.specs.Sound.{Sound, Ranged}

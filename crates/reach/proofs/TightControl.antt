@@ -5,7 +5,7 @@ use mathlib.Core.List.{List, [], _∷_, _++_}
 use Prim.Native.Nat.{ℕ, _+_, _-_, _*_, _≤_, _<_}
 use native.Mathlib.Omega.{arith}
 use lib.Dec.{leb, ltb, eqb, eqb→eq}
-use lib.ListN.{length, getD, take, drop, length-append}
+use lib.ListN.{length, take, drop, length-append}
 use Rattle.hume.specs.Words.{Word, null, none, ref, ret, rules, static, link, isValue, boolHeader, exnHeader}
 use Rattle.hume.specs.Values.{isEmpty}
 use Rattle.hume.specs.Image.{Program}

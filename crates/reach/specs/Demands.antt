@@ -1,7 +1,6 @@
 -- The demands, of one call: what `answer` gives for every input there is, said of the unlimited machine's own steps.
 use mathlib.Core.Path.{_≡_}
 use mathlib.Core.Logic.{_↔_}
-use mathlib.Core.List.{List}
 use mathlib.Core.Option.{some}
 use Prim.Native.Nat.{ℕ, suc, _-_, _≤_, _<_}
 use lib.ListN.{length}
@@ -11,7 +10,7 @@ use Rattle.limits.specs.Figures.{tally}
 use Rattle.hume.specs.Image.{program, codeAt}
 use Rattle.hume.specs.State.{State, End}
 use Rattle.hume.specs.Machine.{machine, start}
-use Rattle.hume.specs.Call.{Given, Answer, refusal, refused, outcome, ran, answer}
+use Rattle.hume.specs.Call.{Given, refusal, refused, outcome, ran, answer}
 use Rattle.laws.specs.Accepted.{Bytes, Words32, Accepted, CardFits, WiresFit, OrderFits}
 use Rattle.reach.specs.Sound.{Sound, Ranged}
 

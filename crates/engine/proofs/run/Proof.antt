@@ -1,70 +1,51 @@
-use mathlib.Core.Path.{_≡_, sym, refl, _∙_}
+use mathlib.Core.Path.{_≡_, _∙_}
 use Rattle.engine.proofs.Opening.{no-number, turned-away, no-tag}
 use borrow.Author.Needs.{needs}
 use Rattle.engine.proofs.run.Statement.{statement}
 use Rattle.engine.proofs.run.Tie as tie
-use Rattle.engine.proofs.run.Reads as reads
-use Rattle.engine.proofs.run.Lts as lts
-use Rattle.engine.proofs.refuse.Reads as refuse-reads
-use Rattle.engine.proofs.run_accepted.Reads as run-accepted-reads
-use Rattle.gate.proofs.verdict.Reads as verdict-reads
 
--- src/lib.rt:154:9
 verdict-requires : tie.Need-verdict-requires
 verdict-requires c κs = tt
 
--- src/lib.rt:156:44
 enum-told : tie.Need-enum-told
 enum-told c = search needs
 
--- src/lib.rt:156:9
 run-accepted-requires : tie.Need-run-accepted-requires
 run-accepted-requires c κs =
     let verdict = c .before .before .before .before .before .before .verdict in
     let enum-told = c .before .before .before .before .enum-told in
     no-number (verdict .ensures) (enum-told .given .1)
 
--- src/lib.rt:158:9
 refuse-requires : tie.Need-refuse-requires
 refuse-requires c κs = tt
 
--- src/lib.rt:141:1
 same-length : tie.Need-same-length
 same-length c = search needs
 
--- src/lib.rt:141:1
 same-length-2 : tie.Need-same-length-2
 same-length-2 c = search needs
 
--- src/lib.rt:141:1
 same-length-3 : tie.Need-same-length-3
 same-length-3 c = search needs
 
--- src/lib.rt:141:1
 same-length-4 : tie.Need-same-length-4
 same-length-4 c = search needs
 
--- src/lib.rt:141:1
 returns : tie.Need-returns
 returns c = search needs
 
--- src/lib.rt:141:1
 same-length-5 : tie.Need-same-length-5
 same-length-5 c = search needs
 
--- src/lib.rt:141:1
 same-length-6 : tie.Need-same-length-6
 same-length-6 c = search needs
 
--- src/lib.rt:141:1
 same-length-7 : tie.Need-same-length-7
 same-length-7 c = search needs
 
--- src/lib.rt:141:1
 same-length-8 : tie.Need-same-length-8
 same-length-8 c = search needs
 
--- src/lib.rt:141:1
 returns-2 : tie.Need-returns-2
 returns-2 c =
     let verdict = c .before .before .verdict in

@@ -1,4 +1,4 @@
-use mathlib.Core.Path.{_≡_, sym, refl, _∙_}
+use mathlib.Core.Path.{_≡_, refl, _∙_}
 use Prim.Native.Nat.{ℕ, _<_}
 use native.Mathlib.Omega.{arith}
 use Rattle.engine.specs.Outcomes.{cycleTable}
@@ -7,58 +7,40 @@ use Rattle.engine.proofs.Opening.{bytes-of, words-of, laid-out, an-imag
 use borrow.Author.Needs.{needs}
 use Rattle.engine.proofs.run_accepted.Statement.{statement}
 use Rattle.engine.proofs.run_accepted.Tie as tie
-use Rattle.engine.proofs.run_accepted.Reads as reads
-use Rattle.engine.proofs.run_accepted.Lts as lts
-use Rattle.engine.proofs.begin.Reads as begin-reads
-use Rattle.engine.proofs.image.entry_of.Reads as entry-of-reads
-use Rattle.engine.proofs.regs.Regs.run.Reads as run-reads
-use Rattle.engine.proofs.stepping.fix.Reads as fix-reads
-use Rattle.engine.proofs.sum_up.Reads as sum-up-reads
-use Rattle.engine.proofs.whole.wipe.Reads as wipe-reads
-use Rattle.gate.proofs.layout.Reads as layout-reads
 
--- src/lib.rt:126:9
 layout-requires : tie.Need-layout-requires
 layout-requires c κs = tt
 
--- src/lib.rt:129:28
 slice-aggregate-fix : tie.Need-slice-aggregate-fix
 slice-aggregate-fix c = search needs
 
--- src/lib.rt:129:9
 fix-requires : tie.Need-fix-requires
 fix-requires c κs =
     let start = c .before .before .before .before .before .before .before .before .before .before in
     let layout = c .before .before .before .layout in
     (an-image _ _ _ _ _ _ _ _ _ (start .pre) (bytes-of (c .before .before .before .before .before .before .before .before .before .shared-slice-known .given)), (placed-of (laid-out (layout .ensures)), long-enough _ _ _ _ _ _ _ _ _ (start .pre) (bytes-of (c .before .before .before .before .before .before .before .before .before .shared-slice-known .given))))
 
--- src/lib.rt:131:39
 slice-aggregate-entry-of : tie.Need-slice-aggregate-entry-of
 slice-aggregate-entry-of c = search needs
 
--- src/lib.rt:131:23
 entry-of-requires : tie.Need-entry-of-requires
 entry-of-requires c κs =
     let start = c .before .before .before .before .before .before .before .before .before .before .before .before in
     let layout = c .before .before .before .before .before .layout in
     (an-image _ _ _ _ _ _ _ _ _ (start .pre) (bytes-of (c .before .before .before .before .before .before .before .before .before .before .before .shared-slice-known .given)), (placed-of (laid-out (layout .ensures)), some-ruleset _ _ _ _ _ _ _ _ _ (start .pre) (bytes-of (c .before .before .before .before .before .before .before .before .before .before .before .shared-slice-known .given))))
 
--- src/lib.rt:131:9
 begin-requires : tie.Need-begin-requires
 begin-requires c κs = tt
 
--- src/lib.rt:132:45
 slice-aggregate-run : tie.Need-slice-aggregate-run
 slice-aggregate-run c = search needs
 
--- src/lib.rt:132:50
 slice-aggregate-run-2 : tie.Need-slice-aggregate-run-2
 slice-aggregate-run-2 c = search needs
 
 slice-aggregate-run-3 : tie.Need-slice-aggregate-run-3
 slice-aggregate-run-3 c = search needs
 
--- src/lib.rt:132:9
 run-requires : tie.Need-run-requires
 unfolding cycleTable
 run-requires c κs =
@@ -69,7 +51,6 @@ run-requires c κs =
     let fix = c .before .before .before .before .before .before .before .before .before .before .fix in
     let t : start .args .t < 4294967296 = omega (arith, start .good) in (under _ _ _ _ _ _ _ _ _ (start .pre) (bytes-of (c .before .before .before .before .before .before .before .before .before .before .before .before .before .before .before .before .before .before .before .before .shared-slice-known .given)) (words-of (c .before .before .before .before .before .before .before .before .before .before .before .before .before .before .before .before .slice-known3 .given)) t _ (begin .ensures) (entry-of .ensures .0) refl refl (layout .ensures) (fix .ensures), refl)
 
--- src/lib.rt:135:5
 wipe-requires : tie.Need-wipe-requires
 wipe-requires c κs =
     let start = c .before .before .before .before .before .before .before .before .before .before .before .before .before .before .before .before .before .before .before .before .before .before .before .before .before .before .before .before .before .before .before .before in
@@ -80,7 +61,6 @@ wipe-requires c κs =
     let run = c .before .before .before .before .before .before .before .before .before .before .run in
     let t : start .args .t < 4294967296 = omega (arith, start .good) in let o = ran-over _ _ _ _ _ _ _ _ _ (start .pre) (bytes-of (c .before .before .before .before .before .before .before .before .before .before .before .before .before .before .before .before .before .before .before .before .before .before .before .before .before .before .before .before .before .before .before .shared-slice-known .given)) (words-of (c .before .before .before .before .before .before .before .before .before .before .before .before .before .before .before .before .before .before .before .before .before .before .before .before .before .before .before .slice-known3 .given)) t _ (begin .ensures) (entry-of .ensures .0) refl refl (layout .ensures) (fix .ensures) (run .ensures) in omega (arith, o .holds .sp, o .holds .stack .room)
 
--- src/lib.rt:136:5
 wipe-requires-2 : tie.Need-wipe-requires-2
 wipe-requires-2 c κs =
     let start = c .before .before .before .before .before .before .before .before .before .before .before .before .before .before .before .before .before .before .before .before .before .before .before .before .before .before .before .before .before .before .before .before .before .before .before .before in
@@ -91,7 +71,6 @@ wipe-requires-2 c κs =
     let run = c .before .before .before .before .before .before .before .before .before .before .before .before .before .before .run in
     let t : start .args .t < 4294967296 = omega (arith, start .good) in let o = ran-over _ _ _ _ _ _ _ _ _ (start .pre) (bytes-of (c .before .before .before .before .before .before .before .before .before .before .before .before .before .before .before .before .before .before .before .before .before .before .before .before .before .before .before .before .before .before .before .before .before .before .before .shared-slice-known .given)) (words-of (c .before .before .before .before .before .before .before .before .before .before .before .before .before .before .before .before .before .before .before .before .before .before .before .before .before .before .before .before .before .before .before .slice-known3 .given)) t _ (begin .ensures) (entry-of .ensures .0) refl refl (layout .ensures) (fix .ensures) (run .ensures) in omega (arith, o .holds .hp, o .holds .heap .room)
 
--- src/lib.rt:137:5
 sum-up-requires : tie.Need-sum-up-requires
 sum-up-requires c κs =
     let start = c .before .before .before .before .before .before .before .before .before .before .before .before .before .before .before .before .before .before .before .before .before .before .before .before .before .before .before .before .before .before .before .before .before .before .before .before .before .before .before in
@@ -102,23 +81,18 @@ sum-up-requires c κs =
     let run = c .before .before .before .before .before .before .before .before .before .before .before .before .before .before .before .before .before .run in
     let t : start .args .t < 4294967296 = omega (arith, start .good) in let o = ran-over _ _ _ _ _ _ _ _ _ (start .pre) (bytes-of (c .before .before .before .before .before .before .before .before .before .before .before .before .before .before .before .before .before .before .before .before .before .before .before .before .before .before .before .before .before .before .before .before .before .before .before .before .before .before .shared-slice-known .given)) (words-of (c .before .before .before .before .before .before .before .before .before .before .before .before .before .before .before .before .before .before .before .before .before .before .before .before .before .before .before .before .before .before .before .before .before .before .slice-known3 .given)) t _ (begin .ensures) (entry-of .ensures .0) refl refl (layout .ensures) (fix .ensures) (run .ensures) in let s = last-small _ _ _ _ _ _ _ _ _ (start .pre) (bytes-of (c .before .before .before .before .before .before .before .before .before .before .before .before .before .before .before .before .before .before .before .before .before .before .before .before .before .before .before .before .before .before .before .before .before .before .before .before .before .before .shared-slice-known .given)) (words-of (c .before .before .before .before .before .before .before .before .before .before .before .before .before .before .before .before .before .before .before .before .before .before .before .before .before .before .before .before .before .before .before .before .before .before .slice-known3 .given)) t o in (o .left, s .pc, s .steps, s .peak, s .sp, s .hp)
 
--- src/lib.rt:112:1
 same-length : tie.Need-same-length
 same-length c = search needs
 
--- src/lib.rt:112:1
 same-length-2 : tie.Need-same-length-2
 same-length-2 c = search needs
 
--- src/lib.rt:112:1
 same-length-3 : tie.Need-same-length-3
 same-length-3 c = search needs
 
--- src/lib.rt:112:1
 same-length-4 : tie.Need-same-length-4
 same-length-4 c = search needs
 
--- src/lib.rt:112:1
 returns : tie.Need-returns
 returns c =
     let start = c .before .before .before .before .before .before .before .before .before .before .before .before .before .before .before .before .before .before .before .before .before .before .before .before .before .before .before .before .before .before .before .before .before .before .before .before .before .before .before .before in

@@ -3,40 +3,28 @@ use Rattle.host.proofs.Writing.{refusal-told, stack-told, heap-told, wi
 use borrow.Author.Needs.{needs}
 use Rattle.host.proofs.ham_run.Statement.{statement}
 use Rattle.host.proofs.ham_run.Tie as tie
-use Rattle.host.proofs.ham_run.Reads as reads
-use Rattle.host.proofs.ham_run.Lts as lts
-use Rattle.engine.proofs.run.Reads as run-reads
-use Rattle.host.proofs.tell.Reads as tell-reads
 
--- src/lib.rt:110:9
 run-requires : tie.Need-run-requires
 run-requires c κs = search needs
 
--- src/lib.rt:111:5
 tell-requires : tie.Need-tell-requires
 tell-requires c κs = search needs
 
--- src/lib.rt:90:1
 same-length : tie.Need-same-length
 same-length c = search needs
 
--- src/lib.rt:90:1
 same-length-2 : tie.Need-same-length-2
 same-length-2 c = search needs
 
--- src/lib.rt:90:1
 same-length-3 : tie.Need-same-length-3
 same-length-3 c = search needs
 
--- src/lib.rt:90:1
 same-length-4 : tie.Need-same-length-4
 same-length-4 c = search needs
 
--- src/lib.rt:90:1
 same-length-5 : tie.Need-same-length-5
 same-length-5 c = search needs
 
--- src/lib.rt:90:1
 returns : tie.Need-returns
 returns c =
     let tell = c .before .before .tell in

@@ -3,26 +3,19 @@ use mathlib.Core.Path.{sym}
 use borrow.Author.Needs.{needs}
 use Rattle.host.proofs.put.Statement.{statement}
 use Rattle.host.proofs.put.Tie as tie
-use Rattle.host.proofs.put.Reads as reads
-use Rattle.host.proofs.put.Lts as lts
 
--- src/lib.rt:64:9
 mul-figures : tie.Need-mul-figures
 mul-figures c = search needs
 
--- src/lib.rt:64:9
 slice-write-figures : tie.Need-slice-write-figures
 slice-write-figures c = search needs
 
--- src/lib.rt:60:1
 same-length : tie.Need-same-length
 same-length c = search needs
 
--- src/lib.rt:60:1
 returns : tie.Need-returns
 returns c = search needs
 
--- src/lib.rt:60:1
 returns-2 : tie.Need-returns-2
 returns-2 c = sym (set-out _ _ _ (c .if1 .left))
 

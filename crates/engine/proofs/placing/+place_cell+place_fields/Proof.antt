@@ -41,7 +41,6 @@ place-fields-below t =
     (falls 2 place-fields-kinds.ps _<_ μ-place-fields t)
     place-fields.Pre
 
--- src/placing.rt:45:13
 place-cell-mul-h :
     (t : ℕ) →
     place-cell-lts.Need-mul-h
@@ -52,7 +51,6 @@ place-cell-mul-h t c =
     let start = c .before .before in
     omega (arith, cell-inside (start .pre .1), start .good)
 
--- src/placing.rt:45:13
 place-cell-shared-slice-read-h : (t : ℕ) → place-cell-lts.Need-shared-slice-read-h (
   place-fields-below t,
   place-fields.Post,
@@ -61,7 +59,6 @@ place-cell-shared-slice-read-h t c =
     let start = c .before .before .before in
     cell-inside (start .pre .1)
 
--- src/placing.rt:47:31
 place-cell-add-t14 : (t : ℕ) → place-cell-lts.Need-add-t14 (
   place-fields-below t,
   place-fields.Post,
@@ -70,7 +67,6 @@ place-cell-add-t14 t c =
     let start = c .before .before .before .before in
     omega (arith, cell-inside (start .pre .1), start .good)
 
--- src/placing.rt:47:9
 place-cell-returns : (t : ℕ) → place-cell-lts.Need-returns (
   place-fields-below t,
   place-fields.Post,
@@ -80,7 +76,6 @@ place-cell-returns t c =
     let start = c .before .before .before .before in
     λ k. cell-none k (if1 .taken) (start .args .heap .now)
 
--- src/placing.rt:49:19
 place-cell-add-x :
     (t : ℕ) →
     place-cell-lts.Need-add-x
@@ -91,7 +86,6 @@ place-cell-add-x t c =
     let start = c .before .before .before .before in
     omega (arith, cell-inside (start .pre .1), start .good)
 
--- src/placing.rt:49:13
 place-cell-mul-x :
     (t : ℕ) →
     place-cell-lts.Need-mul-x
@@ -103,7 +97,6 @@ place-cell-mul-x t c =
     let if1 = c .if1 in
     omega (arith, cell-inside-2 (start .pre .1) (if1 .left), start .good)
 
--- src/placing.rt:49:13
 place-cell-shared-slice-read-x : (t : ℕ) → place-cell-lts.Need-shared-slice-read-x (
   place-fields-below t,
   place-fields.Post,
@@ -113,7 +106,6 @@ place-cell-shared-slice-read-x t c =
     let if1 = c .before .if1 in
     cell-inside-2 (start .pre .1) (if1 .left)
 
--- src/placing.rt:51:9
 place-cell-mul-heap : (t : ℕ) → place-cell-lts.Need-mul-heap (
   place-fields-below t,
   place-fields.Post,
@@ -126,7 +118,6 @@ place-cell-mul-heap t c =
     let l = (start .pre .1) .low in
     omega (arith, start .good)
 
--- src/placing.rt:51:9
 place-cell-slice-write-heap : (t : ℕ) → place-cell-lts.Need-slice-write-heap (
   place-fields-below t,
   place-fields.Post,
@@ -139,7 +130,6 @@ place-cell-slice-write-heap t c =
     let l = (start .pre .1) .low in
     omega (arith, start .good)
 
--- src/placing.rt:52:14
 place-cell-add-heap : (t : ℕ) → place-cell-lts.Need-add-heap (
   place-fields-below t,
   place-fields.Post,
@@ -152,7 +142,6 @@ place-cell-add-heap t c =
     let l = (start .pre .1) .low in
     omega (arith, start .good)
 
--- src/placing.rt:52:9
 place-cell-mul-heap-2 : (t : ℕ) → place-cell-lts.Need-mul-heap-2 (
   place-fields-below t,
   place-fields.Post,
@@ -165,7 +154,6 @@ place-cell-mul-heap-2 t c =
     let l = (start .pre .1) .low in
     omega (arith, start .good)
 
--- src/placing.rt:52:9
 place-cell-slice-write-heap-2 : (t : ℕ) → place-cell-lts.Need-slice-write-heap-2 (
   place-fields-below t,
   place-fields.Post,
@@ -178,7 +166,6 @@ place-cell-slice-write-heap-2 t c =
     let l = (start .pre .1) .low in
     simp length-set (omega (arith, start .good))
 
--- src/placing.rt:53:31
 place-cell-add-t17 : (t : ℕ) → place-cell-lts.Need-add-t17 (
   place-fields-below t,
   place-fields.Post,
@@ -188,7 +175,6 @@ place-cell-add-t17 t c =
     let if1 = c .before .before .if1 in
     omega (arith, cell-inside-2 (start .pre .1) (if1 .left), start .good)
 
--- src/placing.rt:53:43
 place-cell-add-t19 : (t : ℕ) → place-cell-lts.Need-add-t19 (
   place-fields-below t,
   place-fields.Post,
@@ -201,7 +187,6 @@ place-cell-add-t19 t c =
     let l = (start .pre .1) .low in
     omega (arith, start .good)
 
--- src/placing.rt:53:69
 place-cell-cast-t21 : (t : ℕ) → place-cell-lts.Need-cast-t21 (
   place-fields-below t,
   place-fields.Post,
@@ -214,7 +199,6 @@ place-cell-cast-t21 t c =
     let l = (start .pre .1) .low in
     omega (arith, start .good)
 
--- src/placing.rt:53:57
 place-cell-add-t22 : (t : ℕ) → place-cell-lts.Need-add-t22 (
   place-fields-below t,
   place-fields.Post,
@@ -227,14 +211,12 @@ place-cell-add-t22 t c =
     let l = (start .pre .1) .low in
     omega (arith, start .good)
 
--- src/placing.rt:53:9
 place-cell-same-length : (t : ℕ) → place-cell-lts.Need-same-length (
   place-fields-below t,
   place-fields.Post,
 ) (place-cell-at t) place-cell.Post
 place-cell-same-length t c = simp length-set
 
--- src/placing.rt:53:9
 place-cell-returns-2 : (t : ℕ) → place-cell-lts.Need-returns-2 (
   place-fields-below t,
   place-fields.Post,
@@ -244,7 +226,6 @@ place-cell-returns-2 t c =
     let start = c .before .before .before .before .before .before in
     λ k. cell-atom k (if2 .taken) (start .args .heap .now)
 
--- src/placing.rt:55:13
 place-cell-cast-n :
     (t : ℕ) →
     place-cell-lts.Need-cast-n
@@ -256,7 +237,6 @@ place-cell-cast-n t c =
     let start = c .before .before .before .before .before .before in
     omega (arith, shared-slice-known3 .given (start .args .i + 1))
 
--- src/placing.rt:56:38
 place-cell-add-place-fields : (t : ℕ) → place-cell-lts.Need-add-place-fields (
   place-fields-below t,
   place-fields.Post,
@@ -266,7 +246,6 @@ place-cell-add-place-fields t c =
     let if1 = c .before .before .if1 in
     omega (arith, cell-inside-2 (start .pre .1) (if1 .left), start .good)
 
--- src/placing.rt:56:9
 place-cell-place-fields-requires : (t : ℕ) → place-cell-lts.Need-place-fields-requires (
   place-fields-below t,
   place-fields.Post,
@@ -277,7 +256,6 @@ place-cell-place-fields-requires t c κs =
     let if2 = c .before .if2 in
     (omega (arith, start .pre .0, cell-inside-2 (start .pre .1) (if1 .left)), cell-fields (start .pre .1) (if1 .left) (if2 .left))
 
--- src/placing.rt:58:5
 place-cell-mul-heap-3 : (t : ℕ) → place-cell-lts.Need-mul-heap-3 (
   place-fields-below t,
   place-fields.Post,
@@ -293,7 +271,6 @@ place-cell-mul-heap-3 t c =
     let l = (start .pre .1) .low in
     omega (arith, start .good)
 
--- src/placing.rt:58:5
 place-cell-slice-write-heap-3 : (t : ℕ) → place-cell-lts.Need-slice-write-heap-3 (
   place-fields-below t,
   place-fields.Post,
@@ -309,7 +286,6 @@ place-cell-slice-write-heap-3 t c =
     let l = (start .pre .1) .low in
     omega (arith, start .good)
 
--- src/placing.rt:59:10
 place-cell-add-heap-2 : (t : ℕ) → place-cell-lts.Need-add-heap-2 (
   place-fields-below t,
   place-fields.Post,
@@ -325,7 +301,6 @@ place-cell-add-heap-2 t c =
     let l = (start .pre .1) .low in
     omega (arith, start .good)
 
--- src/placing.rt:59:5
 place-cell-mul-heap-4 : (t : ℕ) → place-cell-lts.Need-mul-heap-4 (
   place-fields-below t,
   place-fields.Post,
@@ -341,7 +316,6 @@ place-cell-mul-heap-4 t c =
     let l = (start .pre .1) .low in
     omega (arith, start .good)
 
--- src/placing.rt:59:5
 place-cell-slice-write-heap-4 : (t : ℕ) → place-cell-lts.Need-slice-write-heap-4 (
   place-fields-below t,
   place-fields.Post,
@@ -357,7 +331,6 @@ place-cell-slice-write-heap-4 t c =
     let l = (start .pre .1) .low in
     simp length-set (omega (arith, start .good))
 
--- src/placing.rt:60:38
 place-cell-add-t10 : (t : ℕ) → place-cell-lts.Need-add-t10 (
   place-fields-below t,
   place-fields.Post,
@@ -373,7 +346,6 @@ place-cell-add-t10 t c =
     let l = (start .pre .1) .low in
     omega (arith, start .good)
 
--- src/placing.rt:60:38
 place-cell-add-t15 : (t : ℕ) → place-cell-lts.Need-add-t15 (
   place-fields-below t,
   place-fields.Post,
@@ -389,7 +361,6 @@ place-cell-add-t15 t c =
     let l = (start .pre .1) .low in
     omega (arith, start .good)
 
--- src/placing.rt:60:68
 place-cell-cast-t12 : (t : ℕ) → place-cell-lts.Need-cast-t12 (
   place-fields-below t,
   place-fields.Post,
@@ -405,7 +376,6 @@ place-cell-cast-t12 t c =
     let l = (start .pre .1) .low in
     omega (arith, start .good)
 
--- src/placing.rt:60:56
 place-cell-add-t27 : (t : ℕ) → place-cell-lts.Need-add-t27 (
   place-fields-below t,
   place-fields.Post,
@@ -421,7 +391,6 @@ place-cell-add-t27 t c =
     let l = (start .pre .1) .low in
     omega (arith, start .good)
 
--- src/placing.rt:41:1
 place-cell-same-length-2 : (t : ℕ) → place-cell-lts.Need-same-length-2 (
   place-fields-below t,
   place-fields.Post,
@@ -430,7 +399,6 @@ place-cell-same-length-2 t c =
     let place-fields = c .before .before .place-fields in
     simp length-set (place-fields .kept .1 .1 .1 .1 .0)
 
--- src/placing.rt:41:1
 place-cell-returns-3 : (t : ℕ) → place-cell-lts.Need-returns-3 (
   place-fields-below t,
   place-fields.Post,
@@ -441,7 +409,6 @@ place-cell-returns-3 t c =
     let place-fields = c .before .before .place-fields in
     λ k. cell-block k (if1 .left) (if2 .left) (place-fields .ensures)
 
--- src/placing.rt:69:9
 place-fields-returns : (t : ℕ) → place-fields-lts.Need-returns (
   place-cell-below t,
   place-cell.Post,
@@ -453,7 +420,6 @@ place-fields-returns t c =
     let start = c .before .before .before in
     λ k. fields-none k (if1 .taken) (start .args .heap .now)
 
--- src/placing.rt:71:9
 place-fields-place-cell-requires : (t : ℕ) → place-fields-lts.Need-place-cell-requires (
   place-cell-below t,
   place-cell.Post,
@@ -465,7 +431,6 @@ place-fields-place-cell-requires t c κs =
     let if1 = c .before .if1 in
     (omega (arith, start .pre .0), fields-first (start .pre .1) (if1 .left))
 
--- src/placing.rt:72:48
 place-fields-sub-place-fields : (t : ℕ) → place-fields-lts.Need-sub-place-fields (
   place-cell-below t,
   place-cell.Post,
@@ -476,7 +441,6 @@ place-fields-sub-place-fields t c =
     let if1 = c .before .before .before .before .if1 in
     omega (arith, (if1 .left))
 
--- src/placing.rt:72:55
 place-fields-add-place-fields : (t : ℕ) → place-fields-lts.Need-add-place-fields (
   place-cell-below t,
   place-cell.Post,
@@ -487,7 +451,6 @@ place-fields-add-place-fields t c =
     let start = c .before .before .before .before .before .before .before in
     let l = (start .pre .1) .low in omega arith
 
--- src/placing.rt:72:9
 place-fields-place-fields-requires : (t : ℕ) → place-fields-lts.Need-place-fields-requires (
   place-cell-below t,
   place-cell.Post,
@@ -503,7 +466,6 @@ place-fields-place-fields-requires t c κs =
     let i = cell-inside (fields-first (start .pre .1) (if1 .left)) in
     (omega (arith, start .pre .0), rw same (fields-later (start .pre .1) (if1 .left) (place-cell .ensures)))
 
--- src/placing.rt:73:14
 place-fields-add-at : (t : ℕ) → place-fields-lts.Need-add-at (
   place-cell-below t,
   place-cell.Post,
@@ -523,7 +485,6 @@ place-fields-add-at t c =
     let nz : 1 ≤ start .args .n = omega (arith, (if1 .left)) in
     omega (arith, start .good)
 
--- src/placing.rt:74:5
 place-fields-mul-heap : (t : ℕ) → place-fields-lts.Need-mul-heap (
   place-cell-below t,
   place-cell.Post,
@@ -543,7 +504,6 @@ place-fields-mul-heap t c =
     let nz : 1 ≤ start .args .n = omega (arith, (if1 .left)) in
     omega (arith, start .good)
 
--- src/placing.rt:74:5
 place-fields-slice-write-heap : (t : ℕ) → place-fields-lts.Need-slice-write-heap (
   place-cell-below t,
   place-cell.Post,
@@ -563,7 +523,6 @@ place-fields-slice-write-heap t c =
     let nz : 1 ≤ start .args .n = omega (arith, (if1 .left)) in
     omega (arith, start .good)
 
--- src/placing.rt:64:1
 place-fields-same-length : (t : ℕ) → place-fields-lts.Need-same-length (
   place-cell-below t,
   place-cell.Post,
@@ -575,7 +534,6 @@ place-fields-same-length t c =
     let place-cell = c .before .before .before .before .before .before .before .place-cell in
     simp length-set ((place-fields .kept .1 .1 .1 .1 .0) ∙ (place-cell .kept .1 .1 .0))
 
--- src/placing.rt:64:1
 place-fields-returns-2 : (t : ℕ) → place-fields-lts.Need-returns-2 (
   place-cell-below t,
   place-cell.Post,

@@ -6,8 +6,6 @@ use Rattle.laws.specs.Sizes.{heads}
 use Rattle.engine.proofs.Copying.{count-none, count-cell, count-end}
 use Rattle.engine.proofs.placing.count_words.Statement.{statement}
 use Rattle.engine.proofs.placing.count_words.Tie as tie
-use Rattle.engine.proofs.placing.count_words.Reads as reads
-use Rattle.engine.proofs.placing.count_words.Lts as lts
 
 abbrev Inv-loop : tie.InvT-loop
 Inv-loop wires from k i₀ n₀ i n = (n ≤ i) × (i ≤ k + 1) × (n + heads (drop i (take k (drop from wires))) ≡ heads (take k (drop from wires)))
@@ -15,45 +13,38 @@ Inv-loop wires from k i₀ n₀ i n = (n ≤ i) × (i ≤ k + 1) × (n + heads (
 abbrev μ-loop : tie.MeasureT-loop
 μ-loop wires from k i₀ n₀ i n = k - i
 
--- src/placing.rt:29:5
 loop-holds : tie.Need-loop-holds Inv-loop μ-loop
 loop-holds c = (omega arith, omega arith, omega arith)
 
--- src/placing.rt:30:18
 add-if1 : tie.Need-add-if1 Inv-loop μ-loop
 add-if1 c =
     let start = c .before .before in
     let loop-test = c .loop-test in
     omega (arith, start .pre .0, loop-test .taken, start .good)
 
--- src/placing.rt:30:12
 mul-if1 : tie.Need-mul-if1 Inv-loop μ-loop
 mul-if1 c =
     let start = c .before .before in
     let loop-test = c .loop-test in
     omega (arith, start .pre .0, loop-test .taken, start .good)
 
--- src/placing.rt:30:12
 shared-slice-read-if1 : tie.Need-shared-slice-read-if1 Inv-loop μ-loop
 shared-slice-read-if1 c =
     let start = c .before .before .before in
     let loop-test = c .before .loop-test in
     omega (arith, start .pre .0, loop-test .taken)
 
--- src/placing.rt:31:13
 add-i : tie.Need-add-i Inv-loop μ-loop
 add-i c =
     let start = c .before .before .before .before in
     let loop-test = c .before .before .loop-test in
     omega (arith, start .pre .0, loop-test .taken, start .good)
 
--- src/placing.rt:29:5
 loop-less : tie.Need-loop-less Inv-loop μ-loop
 loop-less c =
     let loop-test = c .before .before .loop-test in
     omega (arith, loop-test .taken)
 
--- src/placing.rt:29:5
 loop-again : tie.Need-loop-again Inv-loop μ-loop
 loop-again c =
     let loop = c .before .before .before .loop in
@@ -62,14 +53,12 @@ loop-again c =
     let if1 = c .if1 in
     (omega (arith, loop .inv .0), omega (arith, loop-test .taken), count-none (start .args .wires .now) (start .args .from) (start .args .k) (loop .i) (loop .n) (start .pre .0) (loop-test .taken) (if1 .taken) (loop .inv .2))
 
--- src/placing.rt:33:13
 add-i-2 : tie.Need-add-i-2 Inv-loop μ-loop
 add-i-2 c =
     let start = c .before .before .before .before in
     let loop-test = c .before .before .loop-test in
     omega (arith, start .pre .0, loop-test .taken, start .good)
 
--- src/placing.rt:34:13
 add-n : tie.Need-add-n Inv-loop μ-loop
 add-n c =
     let start = c .before .before .before .before in
@@ -77,13 +66,11 @@ add-n c =
     let loop = c .before .before .before .loop in
     omega (arith, start .pre .0, loop-test .taken, loop .inv .0, start .good)
 
--- src/placing.rt:29:5
 loop-less-2 : tie.Need-loop-less-2 Inv-loop μ-loop
 loop-less-2 c =
     let loop-test = c .before .before .loop-test in
     omega (arith, loop-test .taken)
 
--- src/placing.rt:29:5
 loop-again-2 : tie.Need-loop-again-2 Inv-loop μ-loop
 loop-again-2 c =
     let loop = c .before .before .before .loop in
@@ -92,20 +79,17 @@ loop-again-2 c =
     let if1 = c .if1 in
     (omega (arith, loop .inv .0), omega (arith, loop-test .taken), count-cell (start .args .wires .now) (start .args .from) (start .args .k) (loop .i) (loop .n) (start .pre .0) (loop-test .taken) (if1 .left) (loop .inv .2))
 
--- src/placing.rt:37:5
 add-result : tie.Need-add-result Inv-loop μ-loop
 add-result c =
     let start = c .before .before in
     let loop = c .before .loop in
     omega (arith, start .pre .0, loop .inv .0, loop .inv .1, start .good)
 
--- src/placing.rt:37:5
 sub-result : tie.Need-sub-result Inv-loop μ-loop
 sub-result c =
     let start = c .before .before in
     omega (arith, start .pre .1)
 
--- src/placing.rt:22:1
 returns : tie.Need-returns Inv-loop μ-loop
 returns c =
     let start = c .before .before in

@@ -39,7 +39,6 @@ fields-length-below t =
     (falls 1 fields-length-kinds.ps _<_ μ-fields-length t)
     fields-length.Pre
 
--- src/spreading.rt:15:16
 cell-length-add-result : (t : ℕ) → cell-length-lts.Need-add-result (
   fields-length-below t,
   fields-length.Post,
@@ -48,7 +47,6 @@ cell-length-add-result t c =
     let start = c .before .before in
     omega (arith, start .pre .1 .1)
 
--- src/spreading.rt:15:9
 cell-length-returns : (t : ℕ) → cell-length-lts.Need-returns (
   fields-length-below t,
   fields-length.Post,
@@ -58,7 +56,6 @@ cell-length-returns t c =
     let if1 = c .if1 in
     λ k. count-none k (start .args .at) (start .pre .1 .1) (if1 .taken)
 
--- src/spreading.rt:18:9
 cell-length-returns-2 : (t : ℕ) → cell-length-lts.Need-returns-2 (
   fields-length-below t,
   fields-length.Post,
@@ -69,7 +66,6 @@ cell-length-returns-2 t c =
     let if2 = c .if2 in
     λ k. count-over k (start .args .at) (if1 .left) (if2 .taken)
 
--- src/spreading.rt:20:14
 cell-length-sub-p : (t : ℕ) → cell-length-lts.Need-sub-p (
   fields-length-below t,
   fields-length.Post,
@@ -79,7 +75,6 @@ cell-length-sub-p t c =
     let if1 = c .before .if1 in
     omega (arith, reads-ref (start .pre .1 .0) (if1 .left) .least)
 
--- src/spreading.rt:20:13
 cell-length-cast-p : (t : ℕ) → cell-length-lts.Need-cast-p (
   fields-length-below t,
   fields-length.Post,
@@ -89,7 +84,6 @@ cell-length-cast-p t c =
     let if1 = c .before .if1 in
     omega (arith, reads-inside (start .pre .1 .0) (if1 .left), start .good)
 
--- src/spreading.rt:21:8
 cell-length-mul-if3 : (t : ℕ) → cell-length-lts.Need-mul-if3 (
   fields-length-below t,
   fields-length.Post,
@@ -99,7 +93,6 @@ cell-length-mul-if3 t c =
     let if1 = c .before .if1 in
     omega (arith, reads-inside (start .pre .1 .0) (if1 .left), start .good)
 
--- src/spreading.rt:21:8
 cell-length-shared-slice-read-if3 : (t : ℕ) → cell-length-lts.Need-shared-slice-read-if3 (
   fields-length-below t,
   fields-length.Post,
@@ -109,7 +102,6 @@ cell-length-shared-slice-read-if3 t c =
     let if1 = c .before .before .if1 in
     omega (arith, reads-inside (start .pre .1 .0) (if1 .left))
 
--- src/spreading.rt:22:16
 cell-length-add-result-2 : (t : ℕ) → cell-length-lts.Need-add-result-2 (
   fields-length-below t,
   fields-length.Post,
@@ -118,7 +110,6 @@ cell-length-add-result-2 t c =
     let start = c .before .before .before .before .before in
     omega (arith, start .pre .1 .1)
 
--- src/spreading.rt:22:9
 cell-length-returns-3 : (t : ℕ) → cell-length-lts.Need-returns-3 (
   fields-length-below t,
   fields-length.Post,
@@ -130,7 +121,6 @@ cell-length-returns-3 t c =
     let if2 = c .before .before .if2 in
     λ k. count-atom k (start .args .at) (if1 .left) (if3 .taken) (if2 .left)
 
--- src/spreading.rt:24:18
 cell-length-add-n : (t : ℕ) → cell-length-lts.Need-add-n (
   fields-length-below t,
   fields-length.Post,
@@ -140,7 +130,6 @@ cell-length-add-n t c =
     let if1 = c .before .before .before .if1 in
     omega (arith, reads-inside (start .pre .1 .0) (if1 .left), start .good)
 
--- src/spreading.rt:24:13
 cell-length-mul-n : (t : ℕ) → cell-length-lts.Need-mul-n (
   fields-length-below t,
   fields-length.Post,
@@ -150,7 +139,6 @@ cell-length-mul-n t c =
     let if1 = c .before .before .before .if1 in
     omega (arith, reads-inside (start .pre .1 .0) (if1 .left), start .good)
 
--- src/spreading.rt:24:13
 cell-length-shared-slice-read-n : (t : ℕ) → cell-length-lts.Need-shared-slice-read-n (
   fields-length-below t,
   fields-length.Post,
@@ -160,7 +148,6 @@ cell-length-shared-slice-read-n t c =
     let if1 = c .before .before .before .before .if1 in
     omega (arith, reads-inside (start .pre .1 .0) (if1 .left))
 
--- src/spreading.rt:24:13
 cell-length-cast-n : (t : ℕ) → cell-length-lts.Need-cast-n (
   fields-length-below t,
   fields-length.Post,
@@ -170,7 +157,6 @@ cell-length-cast-n t c =
     let start = c .before .before .before .before .before .before in
     omega (arith, shared-slice-known2 .given (start .args .w - 268435456 + 1))
 
--- src/spreading.rt:25:25
 cell-length-add-fields-length : (t : ℕ) → cell-length-lts.Need-add-fields-length (
   fields-length-below t,
   fields-length.Post,
@@ -180,7 +166,6 @@ cell-length-add-fields-length t c =
     let if1 = c .before .before .before .before .if1 in
     omega (arith, reads-inside (start .pre .1 .0) (if1 .left), start .good)
 
--- src/spreading.rt:25:35
 cell-length-add-fields-length-2 : (t : ℕ) → cell-length-lts.Need-add-fields-length-2 (
   fields-length-below t,
   fields-length.Post,
@@ -189,7 +174,6 @@ cell-length-add-fields-length-2 t c =
     let start = c .before .before .before .before .before .before in
     omega (arith, start .pre .1 .1)
 
--- src/spreading.rt:25:5
 cell-length-fields-length-requires : (t : ℕ) → cell-length-lts.Need-fields-length-requires (
   fields-length-below t,
   fields-length.Post,
@@ -201,7 +185,6 @@ cell-length-fields-length-requires t c κs =
     let if3 = c .before .if3 in
     (omega (arith, start .pre .0, if2 .left), (reads-fields (start .pre .1 .0) (if1 .left) (if3 .left), omega (arith, if2 .left)))
 
--- src/spreading.rt:9:1
 cell-length-returns-4 : (t : ℕ) → cell-length-lts.Need-returns-4 (
   fields-length-below t,
   fields-length.Post,
@@ -213,7 +196,6 @@ cell-length-returns-4 t c =
     let fields-length = c .fields-length in
     λ k. count-block k (start .args .at) (if1 .left) (if3 .left) (fields-length .ensures)
 
--- src/spreading.rt:35:9
 fields-length-returns : (t : ℕ) → fields-length-lts.Need-returns (
   cell-length-below t,
   cell-length.Post,
@@ -225,7 +207,6 @@ fields-length-returns t c =
     let if1 = c .if1 in
     λ k. count-end k (start .args .at) (start .pre .1 .1) (if1 .taken)
 
--- src/spreading.rt:37:13
 fields-length-mul-w : (t : ℕ) → fields-length-lts.Need-mul-w (
   cell-length-below t,
   cell-length.Post,
@@ -237,7 +218,6 @@ fields-length-mul-w t c =
     let if1 = c .if1 in
     omega (arith, fields-inside (start .pre .1 .0), (if1 .left), start .good)
 
--- src/spreading.rt:37:13
 fields-length-shared-slice-read-w : (t : ℕ) → fields-length-lts.Need-shared-slice-read-w (
   cell-length-below t,
   cell-length.Post,
@@ -249,7 +229,6 @@ fields-length-shared-slice-read-w t c =
     let if1 = c .before .if1 in
     omega (arith, fields-inside (start .pre .1 .0), (if1 .left))
 
--- src/spreading.rt:38:9
 fields-length-cell-length-requires : (t : ℕ) → fields-length-lts.Need-cell-length-requires (
   cell-length-below t,
   cell-length.Post,
@@ -261,7 +240,6 @@ fields-length-cell-length-requires t c κs =
     let if1 = c .before .if1 in
     (omega (arith, start .pre .0), (reads-first (start .pre .1 .0) (if1 .left), start .pre .1 .1))
 
--- src/spreading.rt:40:9
 fields-length-returns-2 : (t : ℕ) → fields-length-lts.Need-returns-2 (
   cell-length-below t,
   cell-length.Post,
@@ -275,7 +253,6 @@ fields-length-returns-2 t c =
     let if2 = c .if2 in
     λ k. count-stops k (start .args .at) (if1 .left) (cell-length .ensures) (if2 .taken)
 
--- src/spreading.rt:42:25
 fields-length-add-fields-length : (t : ℕ) → fields-length-lts.Need-add-fields-length (
   cell-length-below t,
   cell-length.Post,
@@ -287,7 +264,6 @@ fields-length-add-fields-length t c =
     let if1 = c .before .before .before .if1 in
     omega (arith, fields-inside (start .pre .1 .0), (if1 .left), start .good)
 
--- src/spreading.rt:42:32
 fields-length-sub-fields-length : (t : ℕ) → fields-length-lts.Need-sub-fields-length (
   cell-length-below t,
   cell-length.Post,
@@ -298,7 +274,6 @@ fields-length-sub-fields-length t c =
     let if1 = c .before .before .before .if1 in
     omega (arith, (if1 .left))
 
--- src/spreading.rt:42:5
 fields-length-fields-length-requires : (t : ℕ) → fields-length-lts.Need-fields-length-requires (
   cell-length-below t,
   cell-length.Post,
@@ -313,7 +288,6 @@ fields-length-fields-length-requires t c κs =
     let m = count-falls (start .pre .1 .0) (start .args .at) (if1 .left) (cell-length .ensures) (if2 .left) in
     (omega (arith, start .pre .0, if2 .left), (reads-later (start .pre .1 .0) (if1 .left), if2 .left))
 
--- src/spreading.rt:29:1
 fields-length-returns-3 : (t : ℕ) → fields-length-lts.Need-returns-3 (
   cell-length-below t,
   cell-length.Post,

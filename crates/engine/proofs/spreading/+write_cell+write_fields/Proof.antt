@@ -41,7 +41,6 @@ write-fields-below t =
     (falls 2 write-fields-kinds.ps _<_ μ-write-fields t)
     write-fields.Pre
 
--- src/spreading.rt:50:9
 write-cell-mul-wires : (t : ℕ) → write-cell-lts.Need-mul-wires (
   write-fields-below t,
   write-fields.Post,
@@ -50,7 +49,6 @@ write-cell-mul-wires t c =
     let start = c .before .before .before in
     omega (arith, fits-one (start .pre .1), start .good)
 
--- src/spreading.rt:50:9
 write-cell-slice-write-wires : (t : ℕ) → write-cell-lts.Need-slice-write-wires (
   write-fields-below t,
   write-fields.Post,
@@ -59,7 +57,6 @@ write-cell-slice-write-wires t c =
     let start = c .before .before .before in
     fits-one (start .pre .1)
 
--- src/spreading.rt:51:16
 write-cell-add-result : (t : ℕ) → write-cell-lts.Need-add-result (
   write-fields-below t,
   write-fields.Post,
@@ -68,14 +65,12 @@ write-cell-add-result t c =
     let start = c .before .before .before in
     omega (arith, fits-one (start .pre .1), start .good)
 
--- src/spreading.rt:51:9
 write-cell-same-length : (t : ℕ) → write-cell-lts.Need-same-length (
   write-fields-below t,
   write-fields.Post,
 ) (write-cell-at t) write-cell.Post
 write-cell-same-length t c = simp length-set
 
--- src/spreading.rt:51:9
 write-cell-returns : (t : ℕ) → write-cell-lts.Need-returns (
   write-fields-below t,
   write-fields.Post,
@@ -85,7 +80,6 @@ write-cell-returns t c =
     let start = c .before .before .before in
     λ k. write-none k (if1 .taken) (start .args .wires .now)
 
--- src/spreading.rt:53:14
 write-cell-sub-p :
     (t : ℕ) →
     write-cell-lts.Need-sub-p
@@ -97,7 +91,6 @@ write-cell-sub-p t c =
     let if1 = c .if1 in
     omega (arith, reads-ref (start .pre .1 .reading) (if1 .left) .least)
 
--- src/spreading.rt:53:13
 write-cell-cast-p :
     (t : ℕ) →
     write-cell-lts.Need-cast-p
@@ -109,7 +102,6 @@ write-cell-cast-p t c =
     let if1 = c .if1 in
     omega (arith, reads-inside (start .pre .1 .reading) (if1 .left), start .good)
 
--- src/spreading.rt:54:13
 write-cell-mul-h :
     (t : ℕ) →
     write-cell-lts.Need-mul-h
@@ -121,7 +113,6 @@ write-cell-mul-h t c =
     let if1 = c .if1 in
     omega (arith, reads-inside (start .pre .1 .reading) (if1 .left), start .good)
 
--- src/spreading.rt:54:13
 write-cell-shared-slice-read-h : (t : ℕ) → write-cell-lts.Need-shared-slice-read-h (
   write-fields-below t,
   write-fields.Post,
@@ -131,7 +122,6 @@ write-cell-shared-slice-read-h t c =
     let if1 = c .before .if1 in
     omega (arith, reads-inside (start .pre .1 .reading) (if1 .left))
 
--- src/spreading.rt:55:18
 write-cell-add-n :
     (t : ℕ) →
     write-cell-lts.Need-add-n
@@ -143,7 +133,6 @@ write-cell-add-n t c =
     let if1 = c .before .if1 in
     omega (arith, reads-inside (start .pre .1 .reading) (if1 .left), start .good)
 
--- src/spreading.rt:55:13
 write-cell-mul-n :
     (t : ℕ) →
     write-cell-lts.Need-mul-n
@@ -155,7 +144,6 @@ write-cell-mul-n t c =
     let if1 = c .before .if1 in
     omega (arith, reads-inside (start .pre .1 .reading) (if1 .left), start .good)
 
--- src/spreading.rt:55:13
 write-cell-shared-slice-read-n : (t : ℕ) → write-cell-lts.Need-shared-slice-read-n (
   write-fields-below t,
   write-fields.Post,
@@ -165,7 +153,6 @@ write-cell-shared-slice-read-n t c =
     let if1 = c .before .before .if1 in
     omega (arith, reads-inside (start .pre .1 .reading) (if1 .left))
 
--- src/spreading.rt:56:5
 write-cell-mul-wires-2 : (t : ℕ) → write-cell-lts.Need-mul-wires-2 (
   write-fields-below t,
   write-fields.Post,
@@ -175,7 +162,6 @@ write-cell-mul-wires-2 t c =
     let if1 = c .before .before .if1 in
     omega (arith, fits-two (start .pre .1) (if1 .left), start .good)
 
--- src/spreading.rt:56:5
 write-cell-slice-write-wires-2 : (t : ℕ) → write-cell-lts.Need-slice-write-wires-2 (
   write-fields-below t,
   write-fields.Post,
@@ -185,7 +171,6 @@ write-cell-slice-write-wires-2 t c =
     let if1 = c .before .before .if1 in
     omega (arith, fits-two (start .pre .1) (if1 .left), start .good)
 
--- src/spreading.rt:57:11
 write-cell-add-wires : (t : ℕ) → write-cell-lts.Need-add-wires (
   write-fields-below t,
   write-fields.Post,
@@ -195,7 +180,6 @@ write-cell-add-wires t c =
     let if1 = c .before .before .if1 in
     omega (arith, fits-two (start .pre .1) (if1 .left), start .good)
 
--- src/spreading.rt:57:5
 write-cell-mul-wires-3 : (t : ℕ) → write-cell-lts.Need-mul-wires-3 (
   write-fields-below t,
   write-fields.Post,
@@ -205,7 +189,6 @@ write-cell-mul-wires-3 t c =
     let if1 = c .before .before .if1 in
     omega (arith, fits-two (start .pre .1) (if1 .left), start .good)
 
--- src/spreading.rt:57:5
 write-cell-slice-write-wires-3 : (t : ℕ) → write-cell-lts.Need-slice-write-wires-3 (
   write-fields-below t,
   write-fields.Post,
@@ -215,7 +198,6 @@ write-cell-slice-write-wires-3 t c =
     let if1 = c .before .before .if1 in
     let f = fits-two (start .pre .1) (if1 .left) in simp length-set (omega (arith, start .good))
 
--- src/spreading.rt:59:16
 write-cell-add-result-2 : (t : ℕ) → write-cell-lts.Need-add-result-2 (
   write-fields-below t,
   write-fields.Post,
@@ -225,14 +207,12 @@ write-cell-add-result-2 t c =
     let if1 = c .before .before .before .if1 in
     omega (arith, fits-two (start .pre .1) (if1 .left), start .good)
 
--- src/spreading.rt:59:9
 write-cell-same-length-2 : (t : ℕ) → write-cell-lts.Need-same-length-2 (
   write-fields-below t,
   write-fields.Post,
 ) (write-cell-at t) write-cell.Post
 write-cell-same-length-2 t c = simp length-set
 
--- src/spreading.rt:59:9
 write-cell-returns-2 : (t : ℕ) → write-cell-lts.Need-returns-2 (
   write-fields-below t,
   write-fields.Post,
@@ -243,7 +223,6 @@ write-cell-returns-2 t c =
     let start = c .before .before .before .before .before .before in
     λ k. write-atom k (if1 .left) (if2 .taken) (start .args .wires .now)
 
--- src/spreading.rt:61:13
 write-cell-cast-m :
     (t : ℕ) →
     write-cell-lts.Need-cast-m
@@ -255,7 +234,6 @@ write-cell-cast-m t c =
     let start = c .before .before .before .before .before .before in
     omega (arith, shared-slice-known2 .given (start .args .w - 268435456 + 1))
 
--- src/spreading.rt:62:24
 write-cell-add-write-fields : (t : ℕ) → write-cell-lts.Need-add-write-fields (
   write-fields-below t,
   write-fields.Post,
@@ -265,7 +243,6 @@ write-cell-add-write-fields t c =
     let if1 = c .before .before .before .if1 in
     omega (arith, reads-inside (start .pre .1 .reading) (if1 .left), start .good)
 
--- src/spreading.rt:62:41
 write-cell-add-write-fields-2 : (t : ℕ) → write-cell-lts.Need-add-write-fields-2 (
   write-fields-below t,
   write-fields.Post,
@@ -275,7 +252,6 @@ write-cell-add-write-fields-2 t c =
     let if1 = c .before .before .before .before .if1 in
     omega (arith, fits-two (start .pre .1) (if1 .left), start .good)
 
--- src/spreading.rt:62:5
 write-cell-write-fields-requires : (t : ℕ) → write-cell-lts.Need-write-fields-requires (
   write-fields-below t,
   write-fields.Post,
@@ -286,7 +262,6 @@ write-cell-write-fields-requires t c κs =
     let if2 = c .before .if2 in
     (let f = fits-two (start .pre .1) (if1 .left) in simp length-set (omega (arith, start .pre .0)), fields-fit (start .pre .1) (if1 .left) _ (simp length-set) (if2 .left))
 
--- src/spreading.rt:45:1
 write-cell-same-length-3 : (t : ℕ) → write-cell-lts.Need-same-length-3 (
   write-fields-below t,
   write-fields.Post,
@@ -295,7 +270,6 @@ write-cell-same-length-3 t c =
     let write-fields = c .before .before .write-fields in
     write-fields .kept .1 .1 .1 .0 ∙ simp length-set
 
--- src/spreading.rt:45:1
 write-cell-returns-3 : (t : ℕ) → write-cell-lts.Need-returns-3 (
   write-fields-below t,
   write-fields.Post,
@@ -306,7 +280,6 @@ write-cell-returns-3 t c =
     let write-fields = c .before .before .write-fields in
     λ k. write-block k (if1 .left) (simp length-set) (if2 .left) (write-fields .ensures)
 
--- src/spreading.rt:71:9
 write-fields-returns : (t : ℕ) → write-fields-lts.Need-returns (
   write-cell-below t,
   write-cell.Post,
@@ -318,7 +291,6 @@ write-fields-returns t c =
     let start = c .before .before .before in
     λ k. write-end k (if1 .taken) (start .args .wires .now)
 
--- src/spreading.rt:73:13
 write-fields-mul-w : (t : ℕ) → write-fields-lts.Need-mul-w (
   write-cell-below t,
   write-cell.Post,
@@ -330,7 +302,6 @@ write-fields-mul-w t c =
     let if1 = c .if1 in
     omega (arith, fields-inside (start .pre .1 .reading), (if1 .left), start .good)
 
--- src/spreading.rt:73:13
 write-fields-shared-slice-read-w : (t : ℕ) → write-fields-lts.Need-shared-slice-read-w (
   write-cell-below t,
   write-cell.Post,
@@ -342,7 +313,6 @@ write-fields-shared-slice-read-w t c =
     let if1 = c .before .if1 in
     omega (arith, fields-inside (start .pre .1 .reading), (if1 .left))
 
--- src/spreading.rt:74:9
 write-fields-write-cell-requires : (t : ℕ) → write-fields-lts.Need-write-cell-requires (
   write-cell-below t,
   write-cell.Post,
@@ -354,7 +324,6 @@ write-fields-write-cell-requires t c κs =
     let if1 = c .before .before .if1 in
     (omega (arith, start .pre .0), first-fits (start .pre .1) (if1 .left))
 
--- src/spreading.rt:75:24
 write-fields-add-write-fields : (t : ℕ) → write-fields-lts.Need-add-write-fields (
   write-cell-below t,
   write-cell.Post,
@@ -366,7 +335,6 @@ write-fields-add-write-fields t c =
     let if1 = c .before .before .before .before .before .if1 in
     omega (arith, fields-inside (start .pre .1 .reading), (if1 .left), start .good)
 
--- src/spreading.rt:75:31
 write-fields-sub-write-fields : (t : ℕ) → write-fields-lts.Need-sub-write-fields (
   write-cell-below t,
   write-cell.Post,
@@ -377,7 +345,6 @@ write-fields-sub-write-fields t c =
     let if1 = c .before .before .before .before .before .if1 in
     omega (arith, (if1 .left))
 
--- src/spreading.rt:75:5
 write-fields-write-fields-requires : (t : ℕ) → write-fields-lts.Need-write-fields-requires (
   write-cell-below t,
   write-cell.Post,
@@ -393,7 +360,6 @@ write-fields-write-fields-requires t c κs =
     let i = fits-one (first-fits (start .pre .1) (if1 .left)) in
     (omega (arith, start .pre .0), later-fits (start .pre .1) (if1 .left) (write-cell .ensures) _ s)
 
--- src/spreading.rt:66:1
 write-fields-same-length : (t : ℕ) → write-fields-lts.Need-same-length (
   write-cell-below t,
   write-cell.Post,
@@ -405,7 +371,6 @@ write-fields-same-length t c =
     let write-cell = c .before .before .before .before .before .before .write-cell in
     write-fields .kept .1 .1 .1 .0 ∙ (write-cell .kept .1 .1 .0)
 
--- src/spreading.rt:66:1
 write-fields-returns-2 : (t : ℕ) → write-fields-lts.Need-returns-2 (
   write-cell-below t,
   write-cell.Post,

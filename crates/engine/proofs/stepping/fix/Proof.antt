@@ -1,80 +1,64 @@
 use mathlib.Core.Path.{sym, refl}
 use native.Mathlib.Omega.{arith}
 use Rattle.engine.proofs.Opening.{image-byte, rulesets-most, handler-is, fixed}
-use borrow.Author.Needs.{needs}
 use Rattle.engine.proofs.stepping.fix.Statement.{statement}
 use Rattle.engine.proofs.stepping.fix.Tie as tie
-use Rattle.engine.proofs.stepping.fix.Reads as reads
-use Rattle.engine.proofs.stepping.fix.Lts as lts
-use Rattle.engine.proofs.stepping.handler_entry.Reads as handler-entry-reads
 
--- src/stepping.rt:50:20
 shared-slice-read-rulesets : tie.Need-shared-slice-read-rulesets
 shared-slice-read-rulesets c =
     let start = c .before .before .before in
     omega (arith, start .pre .1 .1)
 
--- src/stepping.rt:50:20
 cast-rulesets : tie.Need-cast-rulesets
 cast-rulesets c =
     let start = c .before .before .before in
     omega (arith, image-byte (start .pre .0) 7)
 
--- src/stepping.rt:51:19
 shared-slice-read-handler : tie.Need-shared-slice-read-handler
 shared-slice-read-handler c =
     let start = c .before .before .before .before in
     omega (arith, start .pre .1 .1)
 
--- src/stepping.rt:51:19
 cast-handler : tie.Need-cast-handler
 cast-handler c =
     let start = c .before .before .before .before in
     omega (arith, image-byte (start .pre .0) 8)
 
--- src/stepping.rt:52:18
 shared-slice-read-inputs : tie.Need-shared-slice-read-inputs
 shared-slice-read-inputs c =
     let start = c .before .before .before .before .before in
     omega (arith, start .pre .1 .1)
 
--- src/stepping.rt:52:18
 cast-inputs : tie.Need-cast-inputs
 cast-inputs c =
     let start = c .before .before .before .before .before in
     omega (arith, image-byte (start .pre .0) 5)
 
--- src/stepping.rt:53:19
 shared-slice-read-outputs : tie.Need-shared-slice-read-outputs
 shared-slice-read-outputs c =
     let start = c .before .before .before .before .before .before in
     omega (arith, start .pre .1 .1)
 
--- src/stepping.rt:53:19
 cast-outputs : tie.Need-cast-outputs
 cast-outputs c =
     let start = c .before .before .before .before .before .before in
     omega (arith, image-byte (start .pre .0) 6)
 
--- src/stepping.rt:54:16
 mul-code : tie.Need-mul-code
 mul-code c =
     let start = c .before .before .before .before .before .before in
     omega (arith, rulesets-most (start .pre .0))
 
--- src/stepping.rt:54:16
 shared-slice-read-code : tie.Need-shared-slice-read-code
 shared-slice-read-code c =
     let start = c .before .before .before .before .before .before .before in
     omega (arith, rulesets-most (start .pre .0), start .pre .1 .0 .long)
 
--- src/stepping.rt:55:9
 handler-entry-requires : tie.Need-handler-entry-requires
 handler-entry-requires c κs =
     let start = c .before .before .before .before .before .before .before in
     (start .pre .0, (start .pre .1 .0, sym (handler-is (start .pre .0))))
 
--- src/stepping.rt:44:1
 returns : tie.Need-returns
 returns c =
     let start = c .before .before .before .before .before .before .before .before in

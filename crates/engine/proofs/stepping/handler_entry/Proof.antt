@@ -1,26 +1,19 @@
 use mathlib.Core.Path.{sym}
 use Rattle.engine.proofs.Opening.{handler-below}
-use borrow.Author.Needs.{needs}
 use Rattle.engine.proofs.stepping.handler_entry.Statement.{statement}
 use Rattle.engine.proofs.stepping.handler_entry.Tie as tie
-use Rattle.engine.proofs.stepping.handler_entry.Reads as reads
-use Rattle.engine.proofs.stepping.handler_entry.Lts as lts
-use Rattle.engine.proofs.image.entry_of.Reads as entry-of-reads
 
--- src/stepping.rt:38:9
 returns : tie.Need-returns
 returns c =
     let if1 = c .if1 in
     λ n. absurd (n (if1 .taken))
 
--- src/stepping.rt:40:5
 entry-of-requires : tie.Need-entry-of-requires
 entry-of-requires c κs =
     let start = c .before .before .before in
     let if1 = c .if1 in
     (start .pre .0, (start .pre .1 .0, handler-below (start .pre .0) _ (start .pre .1 .1) (if1 .left)))
 
--- src/stepping.rt:31:1
 returns-2 : tie.Need-returns-2
 returns-2 c =
     let entry-of = c .entry-of in

@@ -3,19 +3,13 @@ use Rattle.engine.proofs.Dispatching.{payload-nan, payload-else}
 use borrow.Author.Needs.{needs}
 use Rattle.engine.proofs.stepping.stored.Statement.{statement}
 use Rattle.engine.proofs.stepping.stored.Tie as tie
-use Rattle.engine.proofs.stepping.stored.Reads as reads
-use Rattle.engine.proofs.stepping.stored.Lts as lts
-use Rattle.arith.proofs.canonical.Reads as canonical-reads
 
--- src/stepping.rt:30:18
 canonical-requires : tie.Need-canonical-requires
 canonical-requires c κs = search needs
 
--- src/stepping.rt:27:1
 returns : tie.Need-returns
 returns c = c .canonical .ensures ∙ sym (payload-nan _ _ (c .before .if1 .taken))
 
--- src/stepping.rt:27:1
 returns-2 : tie.Need-returns-2
 returns-2 c = sym (payload-else _ _ (c .if1 .left))
 

@@ -7,8 +7,6 @@ use lib.Seq.{paste, paste-zero}
 use Rattle.engine.proofs.Outputs.{clear-more}
 use Rattle.engine.proofs.wiring.clear_wire.Statement.{statement}
 use Rattle.engine.proofs.wiring.clear_wire.Tie as tie
-use Rattle.engine.proofs.wiring.clear_wire.Reads as reads
-use Rattle.engine.proofs.wiring.clear_wire.Lts as lts
 
 abbrev Inv-loop : tie.InvT-loop
 Inv-loop wires₀ at i₀ wires i = (i ≤ 65) × (length wires ≡ length wires₀) × (wires ≡ paste wires₀ at (replicate 65 0) i)
@@ -16,27 +14,23 @@ Inv-loop wires₀ at i₀ wires i = (i ≤ 65) × (length wires ≡ length wires
 abbrev μ-loop : tie.MeasureT-loop
 μ-loop wires₀ at i₀ wires i = 65 - i
 
--- src/wiring.rt:27:5
 loop-holds : tie.Need-loop-holds Inv-loop μ-loop
 loop-holds c =
     let start = c in
     (omega arith, refl, paste-zero (start .args .wires .now) (start .args .at) (replicate 65 0))
 
--- src/wiring.rt:28:15
 add-wires : tie.Need-add-wires Inv-loop μ-loop
 add-wires c =
     let start = c .before .before in
     let loop-test = c .loop-test in
     omega (arith, start .pre, loop-test .taken, start .good)
 
--- src/wiring.rt:28:9
 mul-wires : tie.Need-mul-wires Inv-loop μ-loop
 mul-wires c =
     let start = c .before .before in
     let loop-test = c .loop-test in
     omega (arith, start .pre, loop-test .taken, start .good)
 
--- src/wiring.rt:28:9
 slice-write-wires : tie.Need-slice-write-wires Inv-loop μ-loop
 slice-write-wires c =
     let start = c .before .before in
@@ -44,19 +38,16 @@ slice-write-wires c =
     let loop = c .before .loop in
     omega (arith, start .pre, loop-test .taken, loop .inv .1)
 
--- src/wiring.rt:29:9
 add-i : tie.Need-add-i Inv-loop μ-loop
 add-i c =
     let loop-test = c .loop-test in
     omega (arith, loop-test .taken)
 
--- src/wiring.rt:27:5
 loop-less : tie.Need-loop-less Inv-loop μ-loop
 loop-less c =
     let loop-test = c .loop-test in
     omega (arith, loop-test .taken)
 
--- src/wiring.rt:27:5
 loop-again : tie.Need-loop-again Inv-loop μ-loop
 loop-again c =
     let loop-test = c .loop-test in
@@ -64,13 +55,11 @@ loop-again c =
     let start = c .before .before in
     (omega (arith, loop-test .taken), simp length-set (loop .inv .1), ap (λ (z : List ℕ). set z (start .args .at + loop .i) 0) (loop .inv .2) ∙ clear-more (start .args .wires .now) (start .args .at) (loop .i) (loop-test .taken) (start .pre))
 
--- src/wiring.rt:22:1
 same-length : tie.Need-same-length Inv-loop μ-loop
 same-length c =
     let loop = c .before .loop in
     loop .inv .1
 
--- src/wiring.rt:22:1
 returns : tie.Need-returns Inv-loop μ-loop
 returns c =
     let loop = c .before .loop in

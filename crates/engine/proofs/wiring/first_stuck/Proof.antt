@@ -6,8 +6,6 @@ use borrow.Author.Count.{below-more}
 use Rattle.engine.specs.Copies.{Stuck}
 use Rattle.engine.proofs.wiring.first_stuck.Statement.{statement}
 use Rattle.engine.proofs.wiring.first_stuck.Tie as tie
-use Rattle.engine.proofs.wiring.first_stuck.Reads as reads
-use Rattle.engine.proofs.wiring.first_stuck.Lts as lts
 
 abbrev Inv-loop : tie.InvT-loop
 Inv-loop stack sp wires inputs n i₀ i = (i ≤ n) × ((k : ℕ) → k < i → Stuck stack sp wires inputs k → ⊥)
@@ -15,67 +13,57 @@ Inv-loop stack sp wires inputs n i₀ i = (i ≤ n) × ((k : ℕ) → k < i → 
 abbrev μ-loop : tie.MeasureT-loop
 μ-loop stack sp wires inputs n i₀ i = n - i
 
--- src/wiring.rt:61:5
 loop-holds : tie.Need-loop-holds Inv-loop μ-loop
 loop-holds c = (omega arith, λ k h. absurd (not-suc-le-zero h))
 
--- src/wiring.rt:62:24
 add-if1 : tie.Need-add-if1 Inv-loop μ-loop
 add-if1 c =
     let loop-test = c .loop-test in
     let start = c .before .before in
     omega (arith, loop-test .taken, start .pre .0, start .pre .1 .0, start .good)
 
--- src/wiring.rt:62:18
 sub-if1 : tie.Need-sub-if1 Inv-loop μ-loop
 sub-if1 c =
     let loop-test = c .loop-test in
     let start = c .before .before in
     omega (arith, loop-test .taken, start .pre .0)
 
--- src/wiring.rt:62:12
 mul-if1 : tie.Need-mul-if1 Inv-loop μ-loop
 mul-if1 c =
     let loop-test = c .loop-test in
     let start = c .before .before in
     omega (arith, loop-test .taken, start .pre .0, start .pre .1 .0, start .good)
 
--- src/wiring.rt:62:12
 shared-slice-read-if1 : tie.Need-shared-slice-read-if1 Inv-loop μ-loop
 shared-slice-read-if1 c =
     let loop-test = c .before .loop-test in
     let start = c .before .before .before in
     omega (arith, loop-test .taken, start .pre .0, start .pre .1 .0)
 
--- src/wiring.rt:63:28
 add-if2 : tie.Need-add-if2 Inv-loop μ-loop
 add-if2 c =
     let loop-test = c .before .before .loop-test in
     let start = c .before .before .before .before in
     omega (arith, loop-test .taken, start .pre .1 .1, start .good)
 
--- src/wiring.rt:63:22
 mul-if2 : tie.Need-mul-if2 Inv-loop μ-loop
 mul-if2 c =
     let loop-test = c .before .before .loop-test in
     let start = c .before .before .before .before in
     omega (arith, loop-test .taken, start .pre .1 .1, start .good)
 
--- src/wiring.rt:63:16
 mul-if2-2 : tie.Need-mul-if2-2 Inv-loop μ-loop
 mul-if2-2 c =
     let loop-test = c .before .before .loop-test in
     let start = c .before .before .before .before in
     omega (arith, loop-test .taken, start .pre .1 .1, start .good)
 
--- src/wiring.rt:63:16
 shared-slice-read-if2 : tie.Need-shared-slice-read-if2 Inv-loop μ-loop
 shared-slice-read-if2 c =
     let loop-test = c .before .before .before .loop-test in
     let start = c .before .before .before .before .before in
     omega (arith, loop-test .taken, start .pre .1 .1)
 
--- src/wiring.rt:64:17
 returns : tie.Need-returns Inv-loop μ-loop
 returns c =
     let loop = c .before .before .before .before .before .loop in
@@ -83,20 +71,17 @@ returns c =
     let if2 = c .if2 in
     record { most = loop .inv .0; before = loop .inv .1; at = λ h. record { some = if1 .taken; full = if2 .taken } }
 
--- src/wiring.rt:67:9
 add-i : tie.Need-add-i Inv-loop μ-loop
 add-i c =
     let loop-test = c .before .before .loop-test in
     let start = c .before .before .before .before in
     omega (arith, loop-test .taken, start .pre .0, start .pre .1 .0, start .good)
 
--- src/wiring.rt:61:5
 loop-less : tie.Need-loop-less Inv-loop μ-loop
 loop-less c =
     let loop-test = c .before .before .loop-test in
     omega (arith, loop-test .taken)
 
--- src/wiring.rt:61:5
 loop-again : tie.Need-loop-again Inv-loop μ-loop
 loop-again c =
     let loop-test = c .before .before .loop-test in
@@ -104,7 +89,6 @@ loop-again c =
     let if1 = c .if1 in
     (omega (arith, loop-test .taken), below-more _ _ (loop .inv .1) (λ t. ⊎-elim (λ w. t .full (w .2 .left)) (λ w. t .some (w .left)) (if1 .came)))
 
--- src/wiring.rt:54:1
 returns-2 : tie.Need-returns-2 Inv-loop μ-loop
 returns-2 c =
     let loop = c .before .loop in

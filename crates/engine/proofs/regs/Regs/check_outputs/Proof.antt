@@ -4,22 +4,13 @@ use Rattle.engine.proofs.Outputs.{check-few, check-other, check-stuck, 
 use borrow.Author.Needs.{needs}
 use Rattle.engine.proofs.regs.Regs.check_outputs.Statement.{statement}
 use Rattle.engine.proofs.regs.Regs.check_outputs.Tie as tie
-use Rattle.engine.proofs.regs.Regs.check_outputs.Reads as reads
-use Rattle.engine.proofs.regs.Regs.check_outputs.Lts as lts
-use Rattle.engine.proofs.regs.Regs.charge_time.Reads as charge-time-reads
-use Rattle.engine.proofs.regs.Regs.halt.Reads as halt-reads
-use Rattle.engine.proofs.wiring.first_other.Reads as first-other-reads
-use Rattle.engine.proofs.wiring.first_stuck.Reads as first-stuck-reads
 
--- src/wiring.rt:97:12
 sub-if1 : tie.Need-sub-if1
 sub-if1 c = search needs
 
--- src/wiring.rt:98:13
 halt-requires : tie.Need-halt-requires
 halt-requires c κs = search needs
 
--- src/wiring.rt:98:13
 returns : tie.Need-returns
 returns c =
     let start = c .before .before .before .before .before in
@@ -27,15 +18,12 @@ returns c =
     let halt = c .halt in
     λ P he or e₁ e₂. record { each = λ ws hs h m n. check-few (start .pre .0) h _ _ P m _ e₂ _ (if1 .taken) (halt .ensures) }
 
--- src/wiring.rt:100:13
 first-other-requires : tie.Need-first-other-requires
 first-other-requires c κs = search needs
 
--- src/wiring.rt:102:13
 halt-requires-2 : tie.Need-halt-requires-2
 halt-requires-2 c κs = search needs
 
--- src/wiring.rt:102:13
 returns-2 : tie.Need-returns-2
 returns-2 c =
     let start = c .before .before .before .before .before .before .before in
@@ -48,19 +36,15 @@ returns-2 c =
           check-other (start .pre .0) h _ _ P m _ e₂ _ _ (if1 .left) (first-other .ensures) (if2 .taken) (halt2 .ensures);
     }
 
--- src/wiring.rt:104:13
 first-stuck-requires : tie.Need-first-stuck-requires
 first-stuck-requires c κs = search needs
 
--- src/wiring.rt:106:46
 cast-t16 : tie.Need-cast-t16
 cast-t16 c = search needs
 
--- src/wiring.rt:106:13
 halt-requires-3 : tie.Need-halt-requires-3
 halt-requires-3 c κs = search needs
 
--- src/wiring.rt:106:13
 returns-3 : tie.Need-returns-3
 returns-3 c =
     let start = c .before .before .before .before .before .before .before .before .before in
@@ -75,15 +59,12 @@ returns-3 c =
           check-stuck (start .pre .0) h _ _ P m _ e₂ _ e₁ _ _ _ (if1 .left) (first-other .ensures) (if2 .left) (first-stuck .ensures) (if3 .taken) (halt3 .ensures);
     }
 
--- src/wiring.rt:109:19
 add-next : tie.Need-add-next
 add-next c = search needs
 
--- src/wiring.rt:110:9
 charge-time-requires : tie.Need-charge-time-requires
 charge-time-requires c κs = search needs
 
--- src/wiring.rt:89:5
 returns-4 : tie.Need-returns-4
 returns-4 c =
     let start = c .before .before .before .before .before .before .before .before .before .before in

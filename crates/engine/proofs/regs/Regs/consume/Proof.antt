@@ -4,32 +4,22 @@ use Rattle.engine.proofs.Outputs.{cleared, consume-leads}
 use borrow.Author.Needs.{needs}
 use Rattle.engine.proofs.regs.Regs.consume.Statement.{statement}
 use Rattle.engine.proofs.regs.Regs.consume.Tie as tie
-use Rattle.engine.proofs.regs.Regs.consume.Reads as reads
-use Rattle.engine.proofs.regs.Regs.consume.Lts as lts
-use Rattle.engine.proofs.regs.Regs.charge_time.Reads as charge-time-reads
-use Rattle.engine.proofs.wiring.clear_wire.Reads as clear-wire-reads
 
--- src/wiring.rt:80:19
 add-next : tie.Need-add-next
 add-next c = search needs
 
--- src/wiring.rt:81:13
 charge-time-requires : tie.Need-charge-time-requires
 charge-time-requires c κs = search needs
 
--- src/wiring.rt:83:31
 mul-clear-wire : tie.Need-mul-clear-wire
 mul-clear-wire c = search needs
 
--- src/wiring.rt:83:13
 clear-wire-requires : tie.Need-clear-wire-requires
 clear-wire-requires c κs = search needs
 
--- src/wiring.rt:74:5
 same-length : tie.Need-same-length
 same-length c = search needs
 
--- src/wiring.rt:74:5
 returns : tie.Need-returns
 returns c =
     let start = c .before .before .before .before .before .before .before .before in
@@ -47,7 +37,6 @@ returns c =
           });
     }
 
--- src/wiring.rt:74:5
 returns-2 : tie.Need-returns-2
 returns-2 c =
     let start = c .before .before .before .before in

@@ -5,20 +5,13 @@ use Rattle.engine.proofs.Moving.{copy-few, copy-is}
 use borrow.Author.Needs.{needs}
 use Rattle.engine.proofs.regs.Regs.copy.Statement.{statement}
 use Rattle.engine.proofs.regs.Regs.copy.Tie as tie
-use Rattle.engine.proofs.regs.Regs.copy.Reads as reads
-use Rattle.engine.proofs.regs.Regs.copy.Lts as lts
-use Rattle.engine.proofs.regs.Regs.halt.Reads as halt-reads
-use Rattle.engine.proofs.regs.Regs.push.Reads as push-reads
 
--- src/moves.rt:54:12
 sub-if1 : tie.Need-sub-if1
 sub-if1 c = search needs
 
--- src/moves.rt:55:13
 halt-requires : tie.Need-halt-requires
 halt-requires c κs = search needs
 
--- src/moves.rt:55:13
 returns : tie.Need-returns
 returns c =
     let start = c .before .before .before .before in
@@ -26,31 +19,24 @@ returns c =
     let halt = c .halt in
     λ he wi or. record { each = λ ws hs h m n. copy-few (start .pre .0) h _ _ _ _ (if1 .taken) (halt .ensures) }
 
--- src/moves.rt:57:29
 add-w : tie.Need-add-w
 add-w c = search needs
 
--- src/moves.rt:57:23
 sub-w : tie.Need-sub-w
 sub-w c = search needs
 
--- src/moves.rt:57:17
 mul-w : tie.Need-mul-w
 mul-w c = search needs
 
--- src/moves.rt:57:17
 slice-read-w : tie.Need-slice-read-w
 slice-read-w c = search needs
 
--- src/moves.rt:58:9
 push-requires : tie.Need-push-requires
 push-requires c κs = search needs
 
--- src/moves.rt:48:5
 same-length : tie.Need-same-length
 same-length c = search needs
 
--- src/moves.rt:48:5
 returns-2 : tie.Need-returns-2
 returns-2 c =
     let start = c .before .before .before .before .before .before .before .before in

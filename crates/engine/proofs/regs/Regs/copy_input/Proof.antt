@@ -8,39 +8,27 @@ use Rattle.engine.proofs.Copying.{input-at, input-size, input-few, inpu
 use borrow.Author.Needs.{needs}
 use Rattle.engine.proofs.regs.Regs.copy_input.Statement.{statement}
 use Rattle.engine.proofs.regs.Regs.copy_input.Tie as tie
-use Rattle.engine.proofs.regs.Regs.copy_input.Reads as reads
-use Rattle.engine.proofs.regs.Regs.copy_input.Lts as lts
-use Rattle.engine.proofs.placing.count_words.Reads as count-words-reads
-use Rattle.engine.proofs.placing.place_cell.Reads as place-cell-reads
-use Rattle.engine.proofs.regs.Regs.charge.Reads as charge-reads
-use Rattle.engine.proofs.regs.Regs.halt.Reads as halt-reads
 
--- src/wiring.rt:121:18
 mul-at : tie.Need-mul-at
 mul-at c =
     let start = c .before .before .before in
     let f = start .pre .1 .1 .1 in omega (arith, f .long, f .inside, start .good)
 
--- src/wiring.rt:122:17
 mul-k : tie.Need-mul-k
 mul-k c = search needs
 
--- src/wiring.rt:122:17
 shared-slice-read-k : tie.Need-shared-slice-read-k
 shared-slice-read-k c = search needs
 
--- src/wiring.rt:122:17
 cast-k : tie.Need-cast-k
 cast-k c =
     let shared-slice-known2 = c .shared-slice-known2 in
     let start = c .before .before .before .before in
     omega (arith, shared-slice-known2 .given (65 * start .args .a))
 
--- src/wiring.rt:124:13
 halt-requires : tie.Need-halt-requires
 halt-requires c κs = search needs
 
--- src/wiring.rt:124:13
 returns : tie.Need-returns
 returns c =
     let start = c .before .before .before .before .before .before in
@@ -48,25 +36,21 @@ returns c =
     let halt = c .halt in
     λ or. record { each = λ ws hs h m n. copy-empty (start .pre .0) h _ or _ _ (if1 .taken) (halt .ensures) }
 
--- src/wiring.rt:126:40
 add-count-words : tie.Need-add-count-words
 add-count-words c =
     let start = c .before .before .before .before .before in
     let if1 = c .if1 in
     let u = input-at (start .pre .1 .1 .1) (if1 .left) in omega (arith, u .inside, start .good)
 
--- src/wiring.rt:126:13
 count-words-requires : tie.Need-count-words-requires
 count-words-requires c κs =
     let start = c .before .before .before .before .before in
     let if1 = c .if1 in
     let u = input-at (start .pre .1 .1 .1) (if1 .left) in (u .inside, omega (arith, if1 .left))
 
--- src/wiring.rt:130:19
 add-next : tie.Need-add-next
 add-next c = search needs
 
--- src/wiring.rt:131:19
 add-next-2 : tie.Need-add-next-2
 add-next-2 c =
     let start = c .before .before .before .before .before .before in
@@ -77,22 +61,18 @@ add-next-2 c =
     let few = input-few u in
     omega (arith, start .pre .0 .hp, start .pre .0 .heap-cap)
 
--- src/wiring.rt:132:19
 add-next-3 : tie.Need-add-next-3
 add-next-3 c = search needs
 
--- src/wiring.rt:133:13
 charge-requires : tie.Need-charge-requires
 charge-requires c κs = search needs
 
--- src/wiring.rt:135:44
 add-place-cell : tie.Need-add-place-cell
 add-place-cell c =
     let start = c .before .before .before .before .before .before .before .before .before in
     let if1 = c .before .before .before .before .if1 in
     let u = input-at (start .pre .1 .1 .1) (if1 .left) in omega (arith, u .inside, start .good)
 
--- src/wiring.rt:135:17
 place-cell-requires : tie.Need-place-cell-requires
 place-cell-requires c κs =
     let start = c .before .before .before .before .before .before .before .before .before .before in
@@ -107,11 +87,9 @@ place-cell-requires c κs =
     let low : start .args .self .hp + size (u .value) < 2 ^ 28 = omega (arith, e, pd .heap, start .pre .0 .heap-cap) in
     input-here u _ _ fits low
 
--- src/wiring.rt:136:13
 mul-stack : tie.Need-mul-stack
 mul-stack c = search needs
 
--- src/wiring.rt:136:13
 slice-write-stack : tie.Need-slice-write-stack
 slice-write-stack c =
     let charge = c .before .before .before .before .before .charge in
@@ -119,15 +97,12 @@ slice-write-stack c =
     let start = c .before .before .before .before .before .before .before .before .before .before .before .before .before in
     let pd = went-on (charge .ensures) (if2 .taken) in omega (arith, pd .depth, start .pre .1 .0)
 
--- src/wiring.rt:114:5
 same-length : tie.Need-same-length
 same-length c = search needs
 
--- src/wiring.rt:114:5
 same-length-2 : tie.Need-same-length-2
 same-length-2 c = search needs
 
--- src/wiring.rt:114:5
 returns-2 : tie.Need-returns-2
 returns-2 c =
     let start = c .before .before .before .before .before .before .before .before .before .before .before .before .before in
@@ -153,7 +128,6 @@ returns-2 c =
           });
     }
 
--- src/wiring.rt:114:5
 returns-3 : tie.Need-returns-3
 returns-3 c =
     let start = c .before .before .before .before .before .before .before .before .before in

@@ -5,20 +5,13 @@ use Rattle.engine.proofs.Moving.{pop-few, pop-leads}
 use borrow.Author.Needs.{needs}
 use Rattle.engine.proofs.regs.Regs.pop.Statement.{statement}
 use Rattle.engine.proofs.regs.Regs.pop.Tie as tie
-use Rattle.engine.proofs.regs.Regs.pop.Reads as reads
-use Rattle.engine.proofs.regs.Regs.pop.Lts as lts
-use Rattle.engine.proofs.regs.Regs.charge_time.Reads as charge-time-reads
-use Rattle.engine.proofs.regs.Regs.halt.Reads as halt-reads
 
--- src/moves.rt:20:12
 sub-if1 : tie.Need-sub-if1
 sub-if1 c = search needs
 
--- src/moves.rt:21:13
 halt-requires : tie.Need-halt-requires
 halt-requires c κs = search needs
 
--- src/moves.rt:21:13
 returns : tie.Need-returns
 returns c =
     let start = c .before .before .before in
@@ -26,19 +19,15 @@ returns c =
     let halt = c .halt in
     λ st he wi or. record { each = λ ws hs h m n. pop-few (start .pre) h _ _ _ _ (if1 .taken) (halt .ensures) }
 
--- src/moves.rt:24:19
 sub-next : tie.Need-sub-next
 sub-next c = search needs
 
--- src/moves.rt:25:19
 add-next : tie.Need-add-next
 add-next c = search needs
 
--- src/moves.rt:26:9
 charge-time-requires : tie.Need-charge-time-requires
 charge-time-requires c κs = search needs
 
--- src/moves.rt:16:5
 returns-2 : tie.Need-returns-2
 returns-2 c =
     let if1 = c .before .before .before .if1 in

@@ -6,27 +6,19 @@ use Rattle.engine.proofs.Moving.{push-leads}
 use borrow.Author.Needs.{needs}
 use Rattle.engine.proofs.regs.Regs.push.Statement.{statement}
 use Rattle.engine.proofs.regs.Regs.push.Tie as tie
-use Rattle.engine.proofs.regs.Regs.push.Reads as reads
-use Rattle.engine.proofs.regs.Regs.push.Lts as lts
-use Rattle.engine.proofs.regs.Regs.charge_depth.Reads as charge-depth-reads
 
--- src/moves.rt:24:19
 add-next : tie.Need-add-next
 add-next c = search needs
 
--- src/moves.rt:25:19
 add-next-2 : tie.Need-add-next-2
 add-next-2 c = search needs
 
--- src/moves.rt:26:13
 charge-depth-requires : tie.Need-charge-depth-requires
 charge-depth-requires c κs = search needs
 
--- src/moves.rt:28:13
 mul-stack : tie.Need-mul-stack
 mul-stack c = search needs
 
--- src/moves.rt:28:13
 slice-write-stack : tie.Need-slice-write-stack
 slice-write-stack c =
     let charge-depth = c .before .charge-depth in
@@ -34,11 +26,9 @@ slice-write-stack c =
     let start = c .before .before .before .before in
     let p = went-on (charge-depth .ensures) (if1 .taken) in omega (arith, p .depth, start .pre .1)
 
--- src/moves.rt:17:5
 same-length : tie.Need-same-length
 same-length c = search needs
 
--- src/moves.rt:17:5
 returns : tie.Need-returns
 returns c =
     let start = c .before .before .before .before in
@@ -46,7 +36,6 @@ returns c =
     let if1 = c .if1 in
     λ v he wi or e. record { each = λ ws hs h m n. settle-yes (push-leads (start .pre .0) h wi or _ v) _ _ (charge-depth .ensures) (if1 .taken) (λ a b. record { stack = bears-push _ ws v _ _ (h .stack) (h .sp) e (omega (arith, start .pre .1, a)); heap = h .heap; wires = refl; order = refl }) }
 
--- src/moves.rt:17:5
 returns-2 : tie.Need-returns-2
 returns-2 c =
     let start = c .before .before .before .before in
