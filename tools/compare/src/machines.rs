@@ -138,54 +138,19 @@ mod proved {
     use super::{outcome, Answer, Outcome};
     use cases::Case;
 
-    extern "C" {
-        /// The number of the refusal, or 0, and then the eight figures are in `figures`.
-        fn ham_run(
-            image: *const u8,
-            image_len: usize,
-            card: *const u32,
-            card_len: usize,
-            time: u32,
-            stack_limit: u32,
-            heap_limit: u32,
-            stack: *mut u32,
-            stack_len: usize,
-            heap: *mut u32,
-            heap_len: usize,
-            wires: *mut u32,
-            wires_len: usize,
-            order: *mut u32,
-            order_len: usize,
-            figures: *mut u32,
-            figures_len: usize,
-        ) -> u32;
-    }
-
     pub fn run(case: &Case) -> Outcome {
         outcome(case, |buffers| {
-            let mut figures = [0; 8];
-            // SAFETY: every pointer comes with the length of the slice it was taken from; the slices are distinct.
-            let refusal = unsafe {
-                ham_run(
-                    case.image.as_ptr(),
-                    case.image.len(),
-                    case.card.as_ptr(),
-                    case.card.len(),
-                    case.time,
-                    case.stack_limit,
-                    case.heap_limit,
-                    buffers.stack.as_mut_ptr(),
-                    buffers.stack.len(),
-                    buffers.heap.as_mut_ptr(),
-                    buffers.heap.len(),
-                    buffers.wires.as_mut_ptr(),
-                    buffers.wires.len(),
-                    buffers.order.as_mut_ptr(),
-                    buffers.order.len(),
-                    figures.as_mut_ptr(),
-                    figures.len(),
-                )
-            };
+            let (refusal, figures) = host::run(
+                &case.image,
+                &case.card,
+                case.time,
+                case.stack_limit,
+                case.heap_limit,
+                &mut buffers.stack,
+                &mut buffers.heap,
+                &mut buffers.wires,
+                &mut buffers.order,
+            );
             match refusal {
                 0 => Answer::Figures(figures),
                 // "A call turned away returns the number with all figures 0 and writes to no buffer."
