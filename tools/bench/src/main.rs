@@ -34,10 +34,19 @@ fn main() -> ExitCode {
 
 /// Every program once on both machines; false at the first difference.
 fn quick() -> bool {
-    let images = [programs::image_only(64), programs::image_only(4096), programs::long(100_000)];
+    let images = [
+        programs::image_only(64),
+        programs::image_only(4096),
+        programs::long(100_000),
+    ];
     for program in programs::all().iter().chain(&images) {
         if measure::answer(program).is_none() {
-            println!("{} and plain differ: {} {}", machines::NAME, program.group, program.name);
+            println!(
+                "{} and plain differ: {} {}",
+                machines::NAME,
+                program.group,
+                program.name
+            );
             return false;
         }
     }

@@ -310,7 +310,6 @@ cons:
     MatchedRule
     CopyArg 0
     Unpack
-    MakeVar 0
     Call 1
     Return";
 

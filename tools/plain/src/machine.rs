@@ -1,7 +1,7 @@
 //! The machine itself: one function, one loop, one `match` on the opcode, and every register a local variable, so that the
 //! compiler can keep them in the processor's. Methods on a struct of registers, with `?`, take about a quarter longer.
 
-use crate::copies::{heap_words, spread, Placing};
+use crate::copies::{heap_words, place, spread};
 use crate::image::{Program, Ruleset};
 use crate::primitives::{self, ONE, TWO};
 use crate::words::*;
@@ -48,6 +48,29 @@ fn first_full(top: &[u32], outputs: &[[u32; 65]]) -> Option<usize> {
     both.position(|(word, wire)| *word != NONE && wire[0] != 0)
 }
 
+/// Most tuples are small, and for them the call of a copying function would take longer than the copy.
+#[inline(always)]
+fn copy_fields(to: &mut [u32], from: &[u32]) {
+    match (to, from) {
+        ([a], [x]) => *a = *x,
+        ([a, b], [x, y]) => (*a, *b) = (*x, *y),
+        ([a, b, c], [x, y, z]) => (*a, *b, *c) = (*x, *y, *z),
+        (to, from) => to.copy_from_slice(from),
+    }
+}
+
+/// The same of nulls.
+#[inline(always)]
+fn clear(words: &mut [u32]) {
+    match words {
+        [] => {}
+        [a] => *a = 0,
+        [a, b] => (*a, *b) = (0, 0),
+        [a, b, c] => (*a, *b, *c) = (0, 0, 0),
+        words => words.fill(0),
+    }
+}
+
 /// Runs an accepted program to its ending, and gives the eight figures. Instructions are read from the image's bytes as
 /// they come, as by the proved machine; a table of them made before the run was no faster.
 pub fn run(
@@ -78,8 +101,13 @@ pub fn run(
         let a = usize::from((instruction >> 48) as u8);
         let b = (instruction >> 32) as u16;
         let c = instruction as u32;
-        let cost = costs[usize::from(opcode)];
 
+        // The opcode is known in its arm, and so is the place of its cost.
+        macro_rules! cost {
+            () => {
+                costs[usize::from(opcode)]
+            };
+        }
         // An ending leaves every register as it was.
         macro_rules! fault_if {
             ($condition:expr, $number:expr) => {
@@ -108,14 +136,14 @@ pub fn run(
         // Where neither the depth nor the heap grows.
         macro_rules! pay {
             () => {
-                left = left_after!(cost);
+                left = left_after!(cost!());
                 steps += 1;
             };
         }
         // One word more, at the next instruction.
         macro_rules! push {
             ($word:expr) => {
-                let rest = left_after!(cost);
+                let rest = left_after!(cost!());
                 let Some(place) = stack.get_mut(sp) else {
                     break (STACK, 0);
                 };
@@ -148,7 +176,7 @@ pub fn run(
                 fault_if!(sp - lp < a, 1);
                 let low = sp - a;
                 fault_if!(!stack[low..sp].iter().all(|word| is_value(*word)), 2);
-                let rest = left_after!(cost);
+                let rest = left_after!(cost!());
                 if low >= stack.len() {
                     break (STACK, 0);
                 }
@@ -194,10 +222,10 @@ pub fn run(
             ($yielded:expr, $cycles:expr, $low:expr) => {
                 match $yielded {
                     Ok((header, payload)) => {
-                        make!(cost + $cycles, $low, header, payload);
+                        make!(cost!() + $cycles, $low, header, payload);
                     }
                     Err(number) => {
-                        raise!(cost + $cycles, number, NONE);
+                        raise!(cost!() + $cycles, number, NONE);
                     }
                 }
             };
@@ -239,12 +267,15 @@ pub fn run(
         }
 
         match opcode {
-            // MkBool, MkInt, MkFloat: the header is the opcode's.
-            1 | 2 => {
-                make!(cost, sp, u32::from(opcode) << 16, c);
+            // MkBool, MkInt, MkFloat
+            1 => {
+                make!(cost!(), sp, BOOL, c);
+            }
+            2 => {
+                make!(cost!(), sp, INT, c);
             }
             3 => {
-                make!(cost, sp, FLOAT, canonical(c));
+                make!(cost!(), sp, FLOAT, canonical(c));
             }
             // MkNone
             4 => {
@@ -259,11 +290,11 @@ pub fn run(
             }
             // Push
             7 => {
-                let rest = left_after!(cost);
+                let rest = left_after!(cost!());
                 let Some(nulls) = stack.get_mut(sp..sp + a) else {
                     break (STACK, 0);
                 };
-                nulls.fill(0);
+                clear(nulls);
                 charged!(rest, sp + a);
                 pc += 1;
             }
@@ -300,12 +331,12 @@ pub fn run(
             // CreateFrame: "pushes the frame link, sets fp to the new sp, pushes a nulls"
             12 => {
                 fault_if!(sp - lp < 3, 4);
-                let rest = left_after!(cost);
+                let rest = left_after!(cost!());
                 let Some(frame) = stack.get_mut(sp..sp + 1 + a) else {
                     break (STACK, 0);
                 };
                 frame[0] = FRAME_LINK + (fp * 256 + a) as u32;
-                frame[1..].fill(0);
+                clear(&mut frame[1..]);
                 fp = sp + 1;
                 lp = fp + a;
                 charged!(rest, lp);
@@ -344,7 +375,7 @@ pub fn run(
             }
             // Call: "return address, ruleset word, static link of slp; slp becomes the new sp + 1, rp 0, pc the entry"
             17 => {
-                let rest = left_after!(cost);
+                let rest = left_after!(cost!());
                 let Some(saved) = stack.get_mut(sp..sp + 3) else {
                     break (STACK, 0);
                 };
@@ -405,7 +436,7 @@ pub fn run(
                 fault_if!(sp == lp, 1);
                 let word = stack[sp - 1];
                 fault_if!(!is_value(word), 2);
-                raise!(cost, u32::from(b), word);
+                raise!(cost!(), u32::from(b), word);
             }
             // StartMatches: "to the current ruleset's rule at order 0"
             22 => {
@@ -440,9 +471,12 @@ pub fn run(
                 go_on!(wires[inp][0] != 0);
                 inp += 1;
             }
-            // MatchBool, MatchInt: 26 below the kind.
-            27 | 28 => {
-                match_cell!((u32::from(opcode) - 26) << 16, c);
+            // MatchBool, MatchInt
+            27 => {
+                match_cell!(BOOL, c);
+            }
+            28 => {
+                match_cell!(INT, c);
             }
             // MatchFloat: "floats by their bits, a NaN c read as 7FC00000"
             29 => {
@@ -467,13 +501,13 @@ pub fn run(
                 fault_if!(!is_reference(word), 2);
                 let (header, size) = cell(heap, word);
                 fault_if!(header != TUPLE && header >> 16 != CONSTR >> 16, 2);
-                let rest = left_after!(cost);
+                let rest = left_after!(cost!());
                 let from = payload(word) + 2;
                 let fields = &heap[from..from + size as usize];
                 let Some(places) = stack.get_mut(low..low + fields.len()) else {
                     break (STACK, 0);
                 };
-                places.copy_from_slice(fields);
+                copy_fields(places, fields);
                 charged!(rest, low + fields.len());
                 pc += 1;
             }
@@ -490,16 +524,18 @@ pub fn run(
                 let wire = &wires[a];
                 let count = wire[0] as usize;
                 fault_if!(count == 0, 8);
+                if wire[1] < TUPLE {
+                    make!(cost!(), sp, wire[1], wire[2]);
+                    continue;
+                }
                 let value = &wire[1..1 + count];
                 let words = heap_words(value);
-                let rest = left_after!(cost);
-                let Some(place) = stack.get_mut(sp) else {
-                    break (STACK, 0);
-                };
+                let rest = left_after!(cost!());
+                let Some(top) = stack.get_mut(sp) else { break (STACK, 0) };
                 if heap.len() - hp < words {
                     break (HEAP, 0);
                 }
-                *place = Placing::new(value, heap, hp).cell();
+                *top = place(value, heap, hp);
                 charged!(rest, sp + 1);
                 hp += words;
                 pc += 1;
@@ -529,16 +565,15 @@ pub fn run(
                 if word != NONE {
                     let wire = &mut wires[program.inputs + a];
                     fault_if!(wire[0] != 0, 5);
-                    // It was empty, and is again if this isn't charged.
-                    let Some(end) = spread(heap, word, wire, 1) else {
-                        *wire = [0; 65];
+                    let Some(count) = spread(heap, word, wire) else {
                         break (FAULT, 6);
                     };
-                    if left < cost {
+                    // It was empty, and is again if this isn't charged.
+                    if left < cost!() {
                         *wire = [0; 65];
                         break (TIME, 0);
                     }
-                    wire[0] = end as u32 - 1;
+                    wire[0] = count as u32;
                 }
                 pay!();
                 sp -= 1;
