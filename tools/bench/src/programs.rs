@@ -565,7 +565,7 @@ pub fn all() -> Vec<Program> {
 pub fn long(steps: u32) -> Program {
     Program {
         time: steps,
-        ..without_heap("", "", NESTED)
+        ..without_heap("", "long", NESTED)
     }
 }
 
@@ -591,7 +591,7 @@ pub fn image_only(count: usize) -> Program {
         c: 0,
     });
     source.close(rng);
-    let mut program = lent("", "", &source, (0, 0, 0));
+    let mut program = lent("", "image", &source, (0, 0, 0));
     program.card.clear();
     program
 }
@@ -658,4 +658,33 @@ fn deep() -> Tree {
 /// A tuple of thirty floats: 62 wire words.
 fn wide() -> Tree {
     Tree::Tuple((0..30).map(|number| Tree::Float(number as f32)).collect())
+}
+
+#[cfg(test)]
+mod tests {
+    use super::*;
+    use crate::machines::{plain, Buffers};
+
+    /// A measured program goes on to the limit it is meant to reach: none has a fault or ends early.
+    #[test]
+    fn programs_go_on() {
+        for program in all() {
+            let figures = plain(&program, &mut Buffers::of(&program)).expect("an accepted call");
+            let (ending, least) = match program.name {
+                "box" => (0, 39),
+                _ if program.heap_limit == 16384 => (7, 300),
+                _ => (5, STEPS),
+            };
+            assert_eq!(figures[0], ending, "{}", program.name);
+            assert!(figures[3] >= least, "{}", program.name);
+        }
+    }
+
+    #[test]
+    fn images_are_fine_and_have_no_card() {
+        for count in [4, 4096] {
+            let program = image_only(count);
+            assert_eq!(plain(&program, &mut Buffers::of(&program)), Err(5));
+        }
+    }
 }

@@ -29,10 +29,27 @@ pub fn print() {
     let rows: Vec<Row> = (0..programs.len())
         .map(|index| Row::new(&programs[index], figures[index][3], whole[index], setups[index]))
         .collect();
+    println!("{}\n", processor());
     print_groups(&rows);
     print_programs(&rows);
     print_growth(growth);
     print_checks(&images, checks);
+}
+
+/// The kind of machine that this was measured on.
+fn processor() -> String {
+    let text = std::fs::read_to_string("/proc/cpuinfo").unwrap_or_default();
+    let values = |key: &str| -> Vec<String> {
+        let lines = text.lines().filter_map(|line| line.split_once(':'));
+        let own = lines.filter(|(name, _)| name.trim() == key);
+        own.map(|(_, value)| value.trim().to_string()).collect()
+    };
+    let named = ["model name", "cpu family", "model"].map(|key| values(key).first().cloned().unwrap_or_default());
+    let [name, family, model] = named;
+    format!(
+        "{name} (family {family}, model {model}), {} cores",
+        values("processor").len()
+    )
 }
 
 fn figures(program: &Program) -> [u32; 8] {
