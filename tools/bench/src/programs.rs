@@ -144,7 +144,7 @@ leaf:
     CopyArg 0
     Return";
 
-/// Five functions, each calling the next twice.
+/// Three functions, each calling the next twice, and a last one that returns its argument.
 const NESTED: &str = "
     ruleset start start
     ruleset one one
@@ -647,7 +647,7 @@ fn pair() -> Tree {
     Tree::Tuple(vec![Tree::Int(1), Tree::None])
 }
 
-/// A list of seven: 62 wire words in 22 cells.
+/// A list of seven: 51 wire words in 22 cells.
 fn deep() -> Tree {
     let nil = Tree::Constr(0, Vec::new());
     (0..7).fold(nil, |rest, number| {
@@ -655,7 +655,7 @@ fn deep() -> Tree {
     })
 }
 
-/// A tuple of thirty floats: 62 wire words.
+/// A tuple of thirty floats: 62 wire words in 31 cells.
 fn wide() -> Tree {
     Tree::Tuple((0..30).map(|number| Tree::Float(number as f32)).collect())
 }
@@ -678,6 +678,11 @@ mod tests {
             assert_eq!(figures[0], ending, "{}", program.name);
             assert!(figures[3] >= least, "{}", program.name);
         }
+    }
+
+    #[test]
+    fn values_are_as_long_as_said() {
+        assert_eq!((values::words(&deep()), values::words(&wide())), (51, 62));
     }
 
     #[test]
