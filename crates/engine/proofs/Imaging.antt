@@ -1,43 +1,28 @@
 -- Laws of an accepted image: each place that is read lies inside it.
-use mathlib.Core.Path.{_≡_, sym, ap, _∙_, subst}
+use mathlib.Core.Path.{_≡_, sym, ap, _∙_}
 use mathlib.Core.List.{List}
-use Prim.Native.Nat.{ℕ, zero, suc, _+_, _*_, _≤_, _<_}
-use native.Mathlib.Nat.{not-suc-le-zero}
-use native.Mathlib.Decide.{ℕ-discrete}
+use Prim.Native.Nat.{ℕ, _+_, _*_, _≤_, _<_}
 use native.Mathlib.Omega.{arith}
-use lib.ListN.{length, getD, take, drop}
-use lib.Seq.{getD-take, getD-drop}
-use Rattle.hume.specs.Image.{Program, program, byte, half, full, rulesetAt, codeAt, orderAt}
-use Rattle.hume.specs.Refusals.{orderOf}
+use lib.ListN.{length, getD}
+use Rattle.hume.specs.Image.{program, byte, half, full, rulesetAt, codeAt, orderAt}
 use Rattle.laws.specs.Accepted.{OrderFits}
-use Rattle.laws.proofs.Permutation.{permutation-lt}
+use Rattle.laws.proofs.Orders.{stretches, order-room, order-small}
 use Rattle.engine.specs.Fits.{Imaged, Located}
 use Rattle.engine.specs.Tables.{Placed}
 
 -- ---- the tables of the rulesets
 
 -- a ruleset's table ends before a later one begins
-tables : (m : List ℕ) (r q : ℕ) → r < q → rulesetAt m r + 3 + 2 * byte m (rulesetAt m r + 2) ≤ rulesetAt m q
+tables : (m : List ℕ) (r q : ℕ) → r < q → rulesetAt m r + (3 + 2 * byte m (rulesetAt m r + 2)) ≤ rulesetAt m q
 unfolding rulesetAt
-tables m r zero h = absurd (not-suc-le-zero h)
-tables m r (suc q) h = by (ℕ-discrete r q) (tables m r q)
-  where
-    by : Dec (r ≡ q)
-        → (r < q → rulesetAt m r + 3 + 2 * byte m (rulesetAt m r + 2) ≤ rulesetAt m q)
-        → rulesetAt m r + 3 + 2 * byte m (rulesetAt m r + 2) ≤ rulesetAt m q + 3 + 2 * byte m (rulesetAt m q + 2)
-    by (yes e) later =
-        subst (λ (k : ℕ). rulesetAt m r + 3 + 2 * byte m (rulesetAt m r + 2) ≤ rulesetAt m k + 3 + 2 * byte m (rulesetAt m k + 2)) e
-        (omega arith)
-    by (no k) later =
-        let l : rulesetAt m r + 3 + 2 * byte m (rulesetAt m r + 2) ≤ rulesetAt m q = later (omega arith) in
-        omega arith
+tables m = stretches (rulesetAt m) (λ r. 3 + 2 * byte m (rulesetAt m r + 2)) (λ q. omega arith)
 
 module _ {m : List ℕ} (i : Imaged m) where
   -- the table of a ruleset lies in the image
   pub table-room : (r : ℕ) → r < program m .rulesets → rulesetAt m r + 3 + 2 * program m .count r ≤ length m
   unfolding program codeAt
   table-room r h =
-      let a : rulesetAt m r + 3 + 2 * byte m (rulesetAt m r + 2) ≤ rulesetAt m (byte m 7) = tables m r (byte m 7) h in
+      let a : rulesetAt m r + (3 + 2 * byte m (rulesetAt m r + 2)) ≤ rulesetAt m (byte m 7) = tables m r (byte m 7) h in
       let b : rulesetAt m (byte m 7) + 8 * half m 9 ≡ length m = i .long in
       omega arith
 
@@ -111,35 +96,6 @@ module _ (m : List ℕ) (c k : ℕ) (e : c ≡ codeAt m 0) where
   pub c-is : full m (c + 8 * k + 4) ≡ program m .argC k
   unfolding program
   c-is = ap (λ (x : ℕ). full m (x + 4)) start
-
--- ---- the rule order
-
--- a ruleset's stretch of the order ends before a later one begins
-stretches : (P : Program) (r q : ℕ) → r < q → orderAt P r + P .count r ≤ orderAt P q
-unfolding orderAt
-stretches P r zero h = absurd (not-suc-le-zero h)
-stretches P r (suc q) h = by (ℕ-discrete r q) (stretches P r q)
-  where
-    by : Dec (r ≡ q) → (r < q → orderAt P r + P .count r ≤ orderAt P q) → orderAt P r + P .count r ≤ orderAt P q + P .count q
-    by (yes e) later = subst (λ (k : ℕ). orderAt P r + P .count r ≤ orderAt P k + P .count k) e (omega arith)
-    by (no k) later =
-        let l : orderAt P r + P .count r ≤ orderAt P q = later (omega arith) in
-        omega arith
-
-module _ {P : Program} {order : List ℕ} (f : OrderFits P order) (r : ℕ) (h : r < P .rulesets) where
-  pub order-room : orderAt P r + P .count r ≤ length order
-  order-room =
-      let a : orderAt P r + P .count r ≤ orderAt P (P .rulesets) = stretches P r (P .rulesets) h in
-      let b : length order ≡ orderAt P (P .rulesets) = f .long in
-      omega arith
-
-  -- a word of the order is the number of a rule of its ruleset
-  pub order-small : (k : ℕ) → k < P .count r → getD order (orderAt P r + k) 0 < P .count r
-  unfolding orderOf
-  order-small k l =
-      let e : getD (take (P .count r) (drop (orderAt P r) order)) k 0 ≡ getD order (orderAt P r + k) 0 =
-      getD-take (P .count r) (drop (orderAt P r) order) k 0 l ∙ getD-drop (orderAt P r) order k 0 in
-      subst (λ (x : ℕ). x < P .count r) e (permutation-lt (P .count r) (orderOf P order r) (f .each r h) k l)
 
 -- ---- the same, by way of the table of places
 

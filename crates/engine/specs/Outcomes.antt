@@ -84,6 +84,36 @@ pub record Tries (r : Regs) (st he : List ℕ) (op a b : ℕ) (o : Outcome) : Ty
   pub three : op ≡ 21 → Deals r st he 0 (λ P. Raise P b) o
   pub fair : Fair r o
 
+-- "cycles from Table 5 .. kept as one table of costs by primitive number": those of one operand, then those of two
+unfoldable pub cycleTable : List ℕ
+cycleTable =
+    118
+    ∷ 699
+    ∷ 2973
+    ∷ 125
+    ∷ 243
+    ∷ 122
+    ∷ 124
+    ∷ 122
+    ∷ 124
+    ∷ 116
+    ∷ 116
+    ∷ 124
+    ∷ 206
+    ∷ 1294
+    ∷ 153
+    ∷ 156
+    ∷ 125
+    ∷ 211
+    ∷ 209
+    ∷ 211
+    ∷ 209
+    ∷ 1106
+    ∷ 1112
+    ∷ 356
+    ∷ 959
+    ∷ []
+
 -- the cycles of the primitive, and none for Raise
 pub record Cycles (op a k : ℕ) : Type 0 where
   pub one : op ≡ 19 → k ≡ prim1 a .cycles

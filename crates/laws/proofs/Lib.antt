@@ -8,5 +8,6 @@ pub mod Objects
 pub mod Wires
 pub mod Deeds
 pub mod Permutation
+pub mod Orders
 pub mod Places
 pub mod Passed

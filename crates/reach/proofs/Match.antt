@@ -19,10 +19,11 @@ use Rattle.laws.specs.Accepted.{Accepted, OrderFits}
 use Rattle.laws.specs.Whole.{Held}
 use Rattle.laws.proofs.Tests.{and-left, and-right, OneOf, one, other, or-cases}
 use Rattle.laws.proofs.Objects.{Block, whole-block, block-fields-length, block-fields-held}
+use Rattle.laws.proofs.Orders.{order-small}
 use Rattle.reach.specs.Sound.{Plain, isNull, Frames, Sound}
 use Rattle.reach.proofs.Deeds.{each-need, each-pick, each-fails}
 use Rattle.reach.proofs.Frames.{frames-push, frames-cut}
-use Rattle.reach.proofs.Order.{order-lt, order-moved}
+use Rattle.reach.proofs.Order.{order-moved}
 use Rattle.reach.proofs.Plain.{held-plain, plain-whole}
 use Rattle.reach.proofs.Keeps.{Keeps, grown-frames, leaves-sound, turns-sound, stacks-keeps, popped, value-plain}
 
@@ -75,7 +76,7 @@ module _ (P : Program) (acc : Accepted P) (s : State) (ok : Sound P s) where
   -- The rule at a place of the current ruleset's order is an address.
   rule-lt : (k : ℕ) → k < P .count (s .regs .rs) → ruleAt P s k < P .size
   unfolding ruleAt
-  rule-lt k h = acc .rule (s .regs .rs) _ (ok .rs) (order-lt P (s .order) (ok .order) (s .regs .rs) k (ok .rs) h)
+  rule-lt k h = acc .rule (s .regs .rs) _ (ok .rs) (order-small (ok .order) (s .regs .rs) (ok .rs) k h)
 
   -- 22 StartMatches
   pub StartMatches-keeps : Keeps P s (StartMatches P s)

@@ -1,9 +1,7 @@
--- Laws of the rule order: its numbers are rules of their ruleset, and moving one to the end keeps it an order.
+-- Moving a rule of a rule order to the end of its ruleset keeps it an order.
 use mathlib.Core.Path.{_≡_, refl, sym, ap, _∙_, subst}
-use mathlib.Core.Bool.{Bool, true, false, _||_}
-use mathlib.Core.List.{List, [], _∷_, _++_}
-use Prim.Native.Nat.{ℕ, zero, suc, _+_, _-_, _≤_, _<_}
-use native.Mathlib.Nat.{not-suc-le-zero, le-of-suc-le-suc}
+use mathlib.Core.List.{List, _∷_, _++_}
+use Prim.Native.Nat.{ℕ, suc, _+_, _-_, _≤_, _<_}
 use native.Mathlib.Decide.{decLe, ℕ-discrete}
 use native.Mathlib.Omega.{arith}
 use lib.Dec.{T, eqb, eqb→eq}
@@ -13,126 +11,9 @@ use Rattle.hume.specs.Image.{Program, orderAt}
 use Rattle.hume.specs.Refusals.{among, permutation, orderOf}
 use Rattle.hume.specs.Instructions.{moveLast}
 use Rattle.laws.specs.Accepted.{OrderFits}
-use Rattle.laws.proofs.Tests.{and-left, and-right, and-both, OneOf, one, other, or-cases, or-left, or-right, every-at, every-of, eqb-of}
-
--- ---- among, by index
-
--- The element at a place is among the words.
-pub among-at : (ws : List ℕ) (i : ℕ) → i < length ws → T (among (getD ws i 0) ws)
-unfolding among
-among-at [] i h = absurd (not-suc-le-zero h)
-among-at (y ∷ ys) zero h = or-left (eqb y y) _ (eqb-of y y refl)
-among-at (y ∷ ys) (suc i) h = or-right (eqb (getD ys i 0) y) _ (among-at ys i (le-of-suc-le-suc h))
-
--- A number that is among the words stands somewhere.
-pub among-where : (x : ℕ) (ws : List ℕ) → T (among x ws) → (i : ℕ) × (i < length ws) × (getD ws i 0 ≡ x)
-unfolding among
-among-where x [] t = absurd t
-among-where x (y ∷ ys) t = by (or-cases (eqb x y) (among x ys) t) (among-where x ys)
-  where
-    by : OneOf (eqb x y) (among x ys) → (T (among x ys) → (i : ℕ) × (i < length ys) × (getD ys i 0 ≡ x))
-        → (i : ℕ) × (i < suc (length ys)) × (getD (y ∷ ys) i 0 ≡ x)
-    by (one e) later = (0, omega arith, sym (eqb→eq x y e))
-    by (other a) later =
-        let r = later a in
-        let h : r .0 < length ys = r .1 in
-        (suc (r .0), omega arith, r .2)
-
--- ---- pigeonhole
-
--- the list without the first x in it
-remove-if : Bool → ℕ → List ℕ → List ℕ → List ℕ
-remove-if true y ys rest = ys
-remove-if false y ys rest = y ∷ rest
-
-remove : ℕ → List ℕ → List ℕ
-remove x [] = []
-remove x (y ∷ ys) = remove-if (eqb x y) y ys (remove x ys)
-
-remove-length : (x : ℕ) (ws : List ℕ) → T (among x ws) → suc (length (remove x ws)) ≡ length ws
-unfolding among remove remove-if
-remove-length x [] t = absurd t
-remove-length x (y ∷ ys) t = by (eqb x y) t (remove-length x ys)
-  where
-    by : (b : Bool) → T (b || among x ys) → (T (among x ys) → suc (length (remove x ys)) ≡ length ys)
-        → suc (length (remove-if b y ys (remove x ys))) ≡ suc (length ys)
-    by true u later = refl
-    by false u later = ap suc (later u)
-
--- what is among the words, other than x, is left when x is removed
-remove-among : (x z : ℕ) (ws : List ℕ) → (z ≡ x → ⊥) → T (among z ws) → T (among z (remove x ws))
-unfolding among remove remove-if
-remove-among x z [] k t = t
-remove-among x z (y ∷ ys) k t = by (eqb x y) (eqb→eq x y) (or-cases (eqb z y) (among z ys) t) (remove-among x z ys k)
-  where
-    by : (b : Bool) → (T b → x ≡ y) → OneOf (eqb z y) (among z ys) → (T (among z ys) → T (among z (remove x ys)))
-        → T (among z (remove-if b y ys (remove x ys)))
-    by true q (one e) later = absurd (k (eqb→eq z y e ∙ sym (q tt)))
-    by true q (other a) later = a
-    by false q (one e) later = or-left (eqb z y) _ e
-    by false q (other a) later = or-right (eqb z y) _ (later a)
-
--- n words at most, among which is each number below n, are all below n
-pigeons : (n : ℕ) (ws : List ℕ) → length ws ≤ n → ((x : ℕ) → x < n → T (among x ws)) → (y : ℕ) → T (among y ws) → y < n
-unfolding among
-pigeons zero [] h k y t = absurd t
-pigeons zero (w ∷ ws) h k y t = absurd (not-suc-le-zero h)
-pigeons (suc n) ws h k y t = by (ℕ-discrete y n) (pigeons n (remove n ws))
-  where
-    len : suc (length (remove n ws)) ≡ length ws
-    len = remove-length n ws (k n (omega arith))
-
-    lower : (x : ℕ) → x < n → T (among x (remove n ws))
-    lower x l = remove-among n x ws (omega arith) (k x (omega arith))
-
-    by : Dec (y ≡ n)
-        → (length (remove n ws) ≤ n → ((x : ℕ) → x < n → T (among x (remove n ws))) → (z : ℕ)
-        → T (among z (remove n ws)) → z < n)
-        → y < suc n
-    by (yes e) later = omega arith
-    by (no q) later =
-        let s : length (remove n ws) ≤ n = omega (arith, len) in
-        let r : y < n = later s lower y (remove-among n y ws q t) in
-        omega arith
-
--- The words of a permutation of 0..n-1 are below n.
-pub permutation-lt : (n : ℕ) (ws : List ℕ) → T (permutation n ws) → (i : ℕ) → i < n → getD ws i 0 < n
-unfolding permutation
-permutation-lt n ws t i h =
-    let e : length ws ≡ n = eqb→eq (length ws) n (and-left (eqb (length ws) n) _ t) in
-    let all = and-right (eqb (length ws) n) _ t in
-    pigeons n ws (omega arith) (every-at n (λ x. among x ws) all) (getD ws i 0) (among-at ws i (omega arith))
-
--- ---- the stretches of the rulesets
-
--- a ruleset's stretch ends before a later one begins
-stretches : (P : Program) (r q : ℕ) → r < q → orderAt P r + P .count r ≤ orderAt P q
-unfolding orderAt
-stretches P r zero h = absurd (not-suc-le-zero h)
-stretches P r (suc q) h = by (ℕ-discrete r q) (stretches P r q)
-  where
-    by : Dec (r ≡ q) → (r < q → orderAt P r + P .count r ≤ orderAt P q)
-        → orderAt P r + P .count r ≤ orderAt P q + P .count q
-    by (yes e) later = subst (λ (k : ℕ). orderAt P r + P .count r ≤ orderAt P k + P .count k) e (omega arith)
-    by (no k) later =
-        let l : orderAt P r + P .count r ≤ orderAt P q = later (omega arith) in
-        omega arith
-
--- the word k of a stretch
-stretch-at : (P : Program) (order : List ℕ) (r k : ℕ) → k < P .count r
-    → getD (orderOf P order r) k 0 ≡ getD order (orderAt P r + k) 0
-unfolding orderOf
-stretch-at P order r k h =
-    getD-take (P .count r) (drop (orderAt P r) order) k 0 h ∙ getD-drop (orderAt P r) order k 0
-
--- A word of an order is the number of a rule of its ruleset.
-pub order-lt : (P : Program) (order : List ℕ) → OrderFits P order → (r k : ℕ) → r < P .rulesets → k < P .count r
-    → getD order (orderAt P r + k) 0 < P .count r
-order-lt P order f r k h l =
-    subst (λ (x : ℕ). x < P .count r) (stretch-at P order r k l)
-    (permutation-lt (P .count r) (orderOf P order r) (f .each r h) k l)
-
--- ---- one word moved last
+use Rattle.laws.proofs.Tests.{and-left, and-right, and-both, every-at, every-of, eqb-of}
+use Rattle.laws.proofs.Permutation.{among-at, among-where}
+use Rattle.laws.proofs.Orders.{order-stretches, stretch-at, order-room}
 
 -- a place that is left, or moved between i and j
 data Near (i j p q : ℕ) : Type 0 where
@@ -234,14 +115,8 @@ order-moved P order f rs rp h k = record { long = len ∙ f .long; each = one-of
     j : ℕ
     j = orderAt P rs + P .count rs
 
-    fit : (r : ℕ) → r < P .rulesets → orderAt P r + P .count r ≤ length order
-    fit r l =
-        let a : orderAt P r + P .count r ≤ orderAt P (P .rulesets) = stretches P r (P .rulesets) l in
-        let b : length order ≡ orderAt P (P .rulesets) = f .long in
-        omega arith
-
     ends : orderAt P rs + P .count rs ≤ length order
-    ends = fit rs h
+    ends = order-room f rs h
 
     new : List ℕ
     new = moveLast order i j
@@ -252,7 +127,7 @@ order-moved P order f rs rp h k = record { long = len ∙ f .long; each = one-of
     -- the stretch of r is as long as before
     stretch-length : (r : ℕ) → r < P .rulesets → length (orderOf P new r) ≡ P .count r
     stretch-length r l =
-        let a : orderAt P r + P .count r ≤ length order = fit r l in
+        let a : orderAt P r + P .count r ≤ length order = order-room f r l in
         let b : length (drop (orderAt P r) new) ≡ length new - orderAt P r = length-drop (orderAt P r) new in
         let c : length new ≡ length order = len in
         length-take-le (P .count r) (drop (orderAt P r) new) (omega arith)
@@ -266,10 +141,10 @@ order-moved P order f rs rp h k = record { long = len ∙ f .long; each = one-of
         let w : P .count r ≡ P .count rs = ap (λ (z : ℕ). P .count z) u in
         (q - orderAt P r, omega arith, omega arith)
     inside r x q l (within a b c e) (no u) (yes m) =
-        let v : orderAt P r + P .count r ≤ orderAt P rs = stretches P r rs m in
+        let v : orderAt P r + P .count r ≤ orderAt P rs = order-stretches P r rs m in
         absurd (omega arith)
     inside r x q l (within a b c e) (no u) (no m) =
-        let v : orderAt P rs + P .count rs ≤ orderAt P r = stretches P rs r (omega arith) in
+        let v : orderAt P rs + P .count rs ≤ orderAt P r = order-stretches P rs r (omega arith) in
         absurd (omega arith)
 
     found : (r : ℕ) → r < P .rulesets → (x : ℕ) → T (among x (orderOf P order r))

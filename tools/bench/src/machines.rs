@@ -1,6 +1,8 @@
 //! Both machines, by one call.
 
 use crate::programs::Program;
+#[cfg(feature = "proved")]
+use homirelanto::{run_numbered, Lent, Limits};
 
 /// What a call writes to.
 pub struct Buffers {
@@ -48,17 +50,19 @@ pub fn plain(program: &Program, buffers: &mut Buffers) -> Answer {
 #[inline(never)]
 pub fn proved(program: &Program, buffers: &mut Buffers) -> Answer {
     reset(program, buffers);
-    let (refusal, figures) = host::run(
-        &program.image,
-        &program.card,
-        program.time,
-        program.stack_limit,
-        program.heap_limit,
-        &mut buffers.stack,
-        &mut buffers.heap,
-        &mut buffers.wires,
-        &mut buffers.order,
-    );
+    let mut figures = [0; 8];
+    let limits = Limits {
+        time: program.time,
+        stack: program.stack_limit,
+        heap: program.heap_limit,
+    };
+    let lent = Lent {
+        stack: &mut buffers.stack,
+        heap: &mut buffers.heap,
+        wires: &mut buffers.wires,
+        order: &mut buffers.order,
+    };
+    let refusal = run_numbered(&program.image, &program.card, limits, lent, &mut figures);
     match refusal {
         0 => Ok(figures),
         _ => Err(refusal),

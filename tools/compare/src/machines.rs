@@ -137,20 +137,23 @@ pub const OTHER: &str = "the proved machine";
 mod proved {
     use super::{outcome, Answer, Outcome};
     use cases::Case;
+    use homirelanto::{run_numbered, Lent, Limits};
 
     pub fn run(case: &Case) -> Outcome {
         outcome(case, |buffers| {
-            let (refusal, figures) = host::run(
-                &case.image,
-                &case.card,
-                case.time,
-                case.stack_limit,
-                case.heap_limit,
-                &mut buffers.stack,
-                &mut buffers.heap,
-                &mut buffers.wires,
-                &mut buffers.order,
-            );
+            let mut figures = [0; 8];
+            let limits = Limits {
+                time: case.time,
+                stack: case.stack_limit,
+                heap: case.heap_limit,
+            };
+            let lent = Lent {
+                stack: &mut buffers.stack,
+                heap: &mut buffers.heap,
+                wires: &mut buffers.wires,
+                order: &mut buffers.order,
+            };
+            let refusal = run_numbered(&case.image, &case.card, limits, lent, &mut figures);
             match refusal {
                 0 => Answer::Figures(figures),
                 // "A call turned away returns the number with all figures 0 and writes to no buffer."

@@ -1,4 +1,5 @@
-use Rattle.engine.proofs.Imaging.{placed-of, place-room, orders-room, orders-small, ordered-rule, rule-small, order-small}
+use Rattle.engine.proofs.Imaging.{placed-of, place-room, orders-room, orders-small, ordered-rule, rule-small}
+use Rattle.laws.proofs.Orders.{order-small}
 use native.Mathlib.Omega.{arith}
 use mathlib.Core.Path.{_∙_}
 use borrow.Author.Needs.{needs}

@@ -1,11 +1,8 @@
-//! With the feature `proved`: links libhost.a, which `rt staticlib host` leaves in the project's target/staticlib.
+//! Links libhost.a, which `rt staticlib host` leaves in the project's target/staticlib.
 
 use std::path::Path;
 
 fn main() {
-    if std::env::var_os("CARGO_FEATURE_PROVED").is_none() {
-        return;
-    }
     let project = Path::new(env!("CARGO_MANIFEST_DIR")).join("../..");
     let directory = project.join("target/staticlib");
     println!("cargo:rerun-if-changed={}", directory.join("libhost.a").display());
