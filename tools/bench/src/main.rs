@@ -1,6 +1,5 @@
 //! Measures the proved machine beside the handwritten one, in one run, and prints the tables of docs/BENCHMARKS.md.
 
-mod assembler;
 mod machines;
 mod measure;
 mod programs;

@@ -3,7 +3,6 @@
 //! There is no garbage collection: a program that makes objects ends at the heap limit after some ten thousand
 //! instructions. The others go on until their time is over.
 
-use crate::assembler::assemble;
 use cases::assembly::{any_instruction, Rules, Source};
 use cases::rng::Rng;
 use cases::values;
@@ -37,7 +36,8 @@ const STEPS: u32 = 200_000;
 
 /// Sums the numbers from 10000 down.
 const SUM: &str = "
-    ruleset start start
+    box inputs 0 outputs 0
+    ruleset start entry start rules start
 start:
     Push 3
     CreateFrame 2
@@ -48,15 +48,15 @@ start:
 loop:
     MkInt 0
     PushVar 1
-    CallPrim2 1
+    CallPrim2 ==.i
     If done
     PushVar 0
     PushVar 1
-    CallPrim2 7
+    CallPrim2 +.i
     MakeVar 0
     MkInt 1
     PushVar 1
-    CallPrim2 8
+    CallPrim2 -.i
     MakeVar 1
     Goto loop
 done:
@@ -64,7 +64,8 @@ done:
 
 /// Euclid's algorithm on two neighbouring Fibonacci numbers, again and again.
 const GCD: &str = "
-    ruleset start start
+    box inputs 0 outputs 0
+    ruleset start entry start rules start
 start:
     Push 3
     CreateFrame 2
@@ -76,11 +77,11 @@ again:
 loop:
     MkInt 0
     PushVar 1
-    CallPrim2 1
+    CallPrim2 ==.i
     If again
     PushVar 1
     PushVar 0
-    CallPrim2 11
+    CallPrim2 mod.i
     PushVar 1
     MakeVar 0
     MakeVar 1
@@ -89,7 +90,8 @@ loop:
 
 /// Comparisons, multiplications and truths.
 const COMPARE: &str = "
-    ruleset start start
+    box inputs 0 outputs 0
+    ruleset start entry start rules start
 start:
     Push 3
     CreateFrame 1
@@ -98,23 +100,24 @@ start:
 loop:
     PushVar 0
     MkInt 1664525
-    CallPrim2 9
+    CallPrim2 *.i
     MakeVar 0
     PushVar 0
     MkInt 1000
-    CallPrim2 6
+    CallPrim2 <.i
     PushVar 0
     MkInt 5
-    CallPrim2 4
-    CallPrim2 13
-    CallPrim1 1
+    CallPrim2 >.i
+    CallPrim2 or
+    CallPrim1 not
     If loop
     Goto loop
     Schedule";
 
 /// Words moved on the stack alone.
 const SHUFFLE: &str = "
-    ruleset start start
+    box inputs 0 outputs 0
+    ruleset start entry start rules start
 start:
     Push 3
     CreateFrame 2
@@ -131,12 +134,13 @@ loop:
 
 /// A function that returns its argument.
 const LEAF: &str = "
-    ruleset start start
-    ruleset leaf leaf
+    box inputs 0 outputs 0
+    ruleset start entry start rules start
+    ruleset leaf entry leaf rules leaf
 start:
     MkNone
 loop:
-    Call 1
+    Call leaf
     Slide 1
     Goto loop
 leaf:
@@ -146,35 +150,36 @@ leaf:
 
 /// Three functions, each calling the next twice, and a last one that returns its argument.
 const NESTED: &str = "
-    ruleset start start
-    ruleset one one
-    ruleset two two
-    ruleset three three
-    ruleset leaf leaf
+    box inputs 0 outputs 0
+    ruleset start entry start rules start
+    ruleset one entry one rules one
+    ruleset two entry two rules two
+    ruleset three entry three rules three
+    ruleset leaf entry leaf rules leaf
 start:
     MkNone
-    Call 1
+    Call one
     Pop 2
     Goto start
 one:
     CreateFrame 0
     CopyArg 0
-    Call 2
-    Call 2
+    Call two
+    Call two
     Return
 two:
     CreateFrame 1
     CopyArg 0
-    Call 3
+    Call three
     MakeVar 0
     PushVar 0
-    Call 3
+    Call three
     Return
 three:
     CreateFrame 2
     CopyArg 0
-    Call 4
-    Call 4
+    Call leaf
+    Call leaf
     Return
 leaf:
     CreateFrame 0
@@ -183,29 +188,30 @@ leaf:
 
 /// Fibonacci numbers by recursion, with integers on the heap.
 const FIBONACCI: &str = "
-    ruleset start start
-    ruleset fib fib
+    box inputs 0 outputs 0
+    ruleset start entry start rules start
+    ruleset fib entry fib rules fib
 start:
     MkInt 20
-    Call 1
+    Call fib
     Schedule
 fib:
     CreateFrame 0
     MkInt 2
     CopyArg 0
-    CallPrim2 6
+    CallPrim2 <.i
     If small
     MkInt 2
     CopyArg 0
-    CallPrim2 8
-    Call 1
+    CallPrim2 -.i
+    Call fib
     Slide 1
     MkInt 1
     CopyArg 0
-    CallPrim2 8
-    Call 1
+    CallPrim2 -.i
+    Call fib
     Slide 1
-    CallPrim2 7
+    CallPrim2 +.i
     Return
 small:
     CopyArg 0
@@ -213,30 +219,31 @@ small:
 
 /// A function of five rules on constructors, called with each.
 const RULES: &str = "
-    ruleset start start
-    ruleset try first second third fourth fifth
+    box inputs 0 outputs 0
+    ruleset start entry start rules start
+    ruleset try entry try rules first second third fourth fifth
 start:
     Push 3
     CreateFrame 4
-    MkCon 0 1
+    MkCon 0 tag 1
     MakeVar 0
     MkNone
     MkNone
-    MkCon 2 2
+    MkCon 2 tag 2
     MakeVar 1
     MkInt 7
     MakeVar 2
-    MkBool 1
+    MkBool True
     MakeVar 3
 loop:
     PushVar 0
-    Call 1
+    Call try
     PushVar 1
-    Call 1
+    Call try
     PushVar 2
-    Call 1
+    Call try
     PushVar 3
-    Call 1
+    Call try
     Pop 8
     Goto loop
 try:
@@ -244,13 +251,13 @@ try:
     StartMatches
 first:
     MatchRule
-    MatchCon 0 1
+    MatchCon 0 tag 1
     MatchedRule
     MkNone
     Return
 second:
     MatchRule
-    MatchCon 2 2
+    MatchCon 2 tag 2
     MatchedRule
     CopyArg 0
     Return
@@ -268,31 +275,32 @@ fourth:
     Return
 fifth:
     MatchRule
-    MatchBool 1
+    MatchBool True
     MatchedRule
     MkNone
     Return";
 
 /// Walks along a list of four by matching its cells, and back.
 const LIST: &str = "
-    ruleset start start
-    ruleset walk nil cons
+    box inputs 0 outputs 0
+    ruleset start entry start rules start
+    ruleset walk entry walk rules nil cons
 start:
     Push 3
     CreateFrame 1
-    MkCon 0 0
+    MkCon 0 tag 0
     MkNone
-    MkCon 2 1
+    MkCon 2 tag 1
     MkNone
-    MkCon 2 1
+    MkCon 2 tag 1
     MkNone
-    MkCon 2 1
+    MkCon 2 tag 1
     MkNone
-    MkCon 2 1
+    MkCon 2 tag 1
     MakeVar 0
 loop:
     PushVar 0
-    Call 1
+    Call walk
     Pop 2
     Goto loop
 walk:
@@ -300,22 +308,23 @@ walk:
     StartMatches
 nil:
     MatchRule
-    MatchCon 0 0
+    MatchCon 0 tag 0
     MatchedRule
     MkNone
     Return
 cons:
     MatchRule
-    MatchCon 2 1
+    MatchCon 2 tag 1
     MatchedRule
     CopyArg 0
     Unpack
-    Call 1
+    Call walk
     Return";
 
 /// Tuples made and taken apart.
 const TUPLES: &str = "
-    ruleset start start
+    box inputs 0 outputs 0
+    ruleset start entry start rules start
 start:
     MkInt 1
     MkInt 2
@@ -329,20 +338,21 @@ loop:
 
 /// A tuple's fields, matched as arguments.
 const PAIRS: &str = "
-    ruleset start start
-    ruleset try swap same
+    box inputs 0 outputs 0
+    ruleset start entry start rules start
+    ruleset try entry try rules swap same
 start:
     Push 3
     CreateFrame 1
     MkInt 4
-    MkBool 0
+    MkBool False
     MkTuple 2
     MakeVar 0
 loop:
     PushVar 0
     Unpack
     PushVar 0
-    Call 1
+    Call try
     Pop 4
     Goto loop
 try:
@@ -352,7 +362,7 @@ swap:
     MatchRule
     MatchTuple 2
     MatchInt 3
-    MatchBool 1
+    MatchBool True
     MatchedRule
     MkNone
     Return
@@ -360,14 +370,15 @@ same:
     MatchRule
     MatchTuple 2
     MatchInt 4
-    MatchBool 0
+    MatchBool False
     MatchedRule
     MkNone
     Return";
 
 /// A logistic map.
 const LOGISTIC: &str = "
-    ruleset start start
+    box inputs 0 outputs 0
+    ruleset start entry start rules start
 start:
     Push 3
     CreateFrame 1
@@ -376,22 +387,23 @@ start:
 loop:
     PushVar 0
     MkFloat 1.0
-    CallPrim2 20
+    CallPrim2 -.f
     PushVar 0
-    CallPrim2 21
+    CallPrim2 *.f
     MkFloat 3.7
-    CallPrim2 21
+    CallPrim2 *.f
     MakeVar 0
     MkFloat 0.0
     PushVar 0
-    CallPrim2 16
+    CallPrim2 >.f
     If loop
     Goto loop
     Schedule";
 
 /// Sums, quotients and conversions.
 const CONVERT: &str = "
-    ruleset start start
+    box inputs 0 outputs 0
+    ruleset start entry start rules start
 start:
     Push 3
     CreateFrame 1
@@ -400,19 +412,19 @@ start:
 loop:
     MkFloat 8.5
     PushVar 0
-    CallPrim1 2
-    CallPrim2 22
+    CallPrim1 toFloat.i
+    CallPrim2 /.f
     MkFloat 1000.25
-    CallPrim2 19
-    CallPrim1 3
+    CallPrim2 +.f
+    CallPrim1 toInt.f
     MakeVar 0
     Goto loop
     Schedule";
 
 /// An integer, copied from its wire.
 const COPY_ATOM: &str = "
-    inputs 1
-    ruleset start start
+    box inputs 1 outputs 0
+    ruleset start entry start rules start
 start:
     CopyInput 0
     Pop 1
@@ -420,8 +432,8 @@ start:
 
 /// The same of a value of many cells, and of one wide cell.
 const COPY_TREES: &str = "
-    inputs 2
-    ruleset start start
+    box inputs 2 outputs 0
+    ruleset start entry start rules start
 start:
     CopyInput 0
     CopyInput 1
@@ -430,9 +442,8 @@ start:
 
 /// Wires looked at and emptied, and nothing to write.
 const CONSUME: &str = "
-    inputs 2
-    outputs 2
-    ruleset start start
+    box inputs 2 outputs 2
+    ruleset start entry start rules start
 start:
     MatchRule
 again:
@@ -447,9 +458,8 @@ again:
 
 /// A box of eight wires each way: every input is copied and written to an output. A call writes to a wire once.
 const BOX: &str = "
-    inputs 8
-    outputs 8
-    ruleset start all
+    box inputs 8 outputs 8
+    ruleset start entry start rules all
 start:
     Push 3
     CreateFrame 0
@@ -494,9 +504,9 @@ all:
 
 /// An exception that its handler matches and raises again.
 const RAISE: &str = "
-    handler 1
-    ruleset start start
-    ruleset caught other own
+    box inputs 0 outputs 0 handler caught
+    ruleset start entry start rules start
+    ruleset caught entry caught rules other own
 start:
     MkNone
     Raise 7
@@ -516,23 +526,23 @@ own:
 
 /// Divisions by zero, from within a call.
 const DIVISION: &str = "
-    handler 1
-    ruleset start start
-    ruleset caught caught
-    ruleset divide divide
+    box inputs 0 outputs 0 handler caught
+    ruleset start entry start rules start
+    ruleset caught entry caught rules caught
+    ruleset divide entry divide rules divide
 start:
     MkInt 0
-    Call 2
+    Call divide
     Schedule
 caught:
     MkInt 0
-    Call 2
+    Call divide
     Schedule
 divide:
     CreateFrame 0
     CopyArg 0
     CopyArg 0
-    CallPrim2 10
+    CallPrim2 div.i
     Return";
 
 /// All of them. Each is lent what it needs: areas are zeroed, and a larger one takes longer.
@@ -591,17 +601,17 @@ pub fn image_only(count: usize) -> Program {
         c: 0,
     });
     source.close(rng);
-    let mut program = lent("", "image", &source, (0, 0, 0));
+    let mut program = lent("", "image", source.image(), (0, 0, 0));
     program.card.clear();
     program
 }
 
 fn with_heap(group: &'static str, name: &'static str, text: &str) -> Program {
-    lent(group, name, &assemble(text), (u32::MAX, 4096, 16384))
+    lent(group, name, image_of(text), (u32::MAX, 4096, 16384))
 }
 
 fn without_heap(group: &'static str, name: &'static str, text: &str) -> Program {
-    lent(group, name, &assemble(text), (STEPS, 256, 64))
+    lent(group, name, image_of(text), (STEPS, 256, 64))
 }
 
 fn a_box(group: &'static str) -> Program {
@@ -618,21 +628,28 @@ fn a_box(group: &'static str) -> Program {
     let inputs = trees.map(Some);
     let mut wires: Vec<Option<Tree>> = inputs.to_vec();
     wires.resize(16, None);
-    lent(group, "box", &assemble(BOX), (u32::MAX, 64, 512)).wires(&wires)
+    lent(group, "box", image_of(BOX), (u32::MAX, 64, 512)).wires(&wires)
 }
 
-fn lent(group: &'static str, name: &'static str, source: &Source, limits: (u32, u32, u32)) -> Program {
-    let orders = source.rulesets.iter().flat_map(|ruleset| 0..ruleset.rules.len());
+/// The image of a text (`examples/README.md` in the project's directory).
+fn image_of(text: &str) -> Vec<u8> {
+    text::assemble(text).expect("the text of an image").image()
+}
+
+/// Everything lent, with a card of ones, empty wires and the rules in their order.
+fn lent(group: &'static str, name: &'static str, image: Vec<u8>, limits: (u32, u32, u32)) -> Program {
+    let program = second::image::read(&image).expect("an image that isn't refused");
+    let orders = program.rulesets.iter().flat_map(|ruleset| 0..ruleset.rules.len());
     Program {
         group,
         name,
-        image: source.image(),
         card: vec![1; 40],
         time: limits.0,
         stack_limit: limits.1,
         heap_limit: limits.2,
-        wires: vec![0; 65 * (source.inputs + source.outputs)],
+        wires: vec![0; 65 * (program.inputs + program.outputs)],
         order: orders.map(|rule| rule as u32).collect(),
+        image,
     }
 }
 
