@@ -88,6 +88,27 @@ pub fn copy(case: &Case) -> Outcome {
     })
 }
 
+/// The handwritten machine that speed is measured against.
+pub fn plain(case: &Case) -> Outcome {
+    outcome(case, |buffers| {
+        let result = plain::run(
+            &case.image,
+            &case.card,
+            case.time,
+            case.stack_limit,
+            case.heap_limit,
+            &mut buffers.stack,
+            &mut buffers.heap,
+            &mut buffers.wires,
+            &mut buffers.order,
+        );
+        match result {
+            Ok(figures) => Answer::Figures(figures),
+            Err(refusal) => Answer::Refused(refusal),
+        }
+    })
+}
+
 static QUIET: AtomicBool = AtomicBool::new(false);
 
 /// A wrong machine may panic; that is a difference and needn't be told twice.

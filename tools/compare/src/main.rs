@@ -17,6 +17,7 @@ use std::time::Instant;
 const USAGE: &str = "\
 compare N SEED                 N cases of each kind, on the second machine and the other
 compare N SEED --only KIND     N cases of one kind: valid, damaged or noise
+compare N SEED --plain         the same with the handwritten machine that speed is measured against
 compare N SEED --mistakes      every mistake must be found within N cases of each kind
 compare N SEED --program PATH  N standard inputs, to the program PATH and the second machine's
 compare N SEED --show KIND     shows case number N of the kind
@@ -30,9 +31,10 @@ fn main() -> ExitCode {
         _ => return usage(),
     };
     let good = match words[2..] {
-        [] => compare(count, seed, &KINDS),
+        [] => compare(count, seed, &KINDS, OTHER),
+        ["--plain"] => compare(count, seed, &KINDS, PLAIN),
         ["--only", kind] => match named_kind(kind) {
-            Some(kind) => compare(count, seed, &[kind]),
+            Some(kind) => compare(count, seed, &[kind], OTHER),
             None => return usage(),
         },
         ["--mistakes"] => mistakes::find_all(count, seed),
@@ -61,9 +63,15 @@ fn named_kind(name: &str) -> Option<Kind> {
         .find(|kind| format!("{kind:?}").to_lowercase() == name)
 }
 
+/// A machine that is compared with the second, and its name.
+type Named = (&'static str, fn(&Case) -> Outcome);
+
+const OTHER: Named = (machines::OTHER, machines::other);
+const PLAIN: Named = ("the handwritten machine", machines::plain);
+
 /// So many cases of each of the kinds; false at the first difference.
-fn compare(count: u64, seed: u64, kinds: &[Kind]) -> bool {
-    println!("the second machine and {}, seed {seed}", machines::OTHER);
+fn compare(count: u64, seed: u64, kinds: &[Kind], (name, run): Named) -> bool {
+    println!("the second machine and {name}, seed {seed}");
     machines::keep_quiet();
     let start = Instant::now();
     let mut coverage = Coverage::default();
@@ -71,7 +79,7 @@ fn compare(count: u64, seed: u64, kinds: &[Kind]) -> bool {
         for number in 0..count {
             let case = case(kind, seed, number);
             let second = machines::second(&case, &mut coverage);
-            let other = machines::other(&case);
+            let other = run(&case);
             if second != other {
                 println!("{}", report::difference(kind, seed, number, &case, &second, &other));
                 return false;

@@ -1,6 +1,6 @@
-//! P1 to P12 of document 01, and the sentences that are easily got wrong, on both machines.
+//! P1 to P12 of document 01, and the sentences that are easily got wrong, on all machines.
 
-use crate::machines::{other, second, Answer};
+use crate::machines::{other, plain, second, Answer};
 use cases::coverage::Coverage;
 use cases::Case;
 
@@ -26,10 +26,11 @@ struct Outcome {
     order: Vec<u32>,
 }
 
-/// What both machines leave, or the refusal; one difference is a failure.
+/// What all machines leave, or the refusal; one difference is a failure.
 fn both(case: &Case) -> Result<Outcome, u32> {
     let left = second(case, &mut Coverage::default());
     assert_eq!(left, other(case));
+    assert_eq!(left, plain(case));
     match left.result {
         Answer::Figures(figures) => Ok(Outcome {
             figures,
