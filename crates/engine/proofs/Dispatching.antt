@@ -1,12 +1,11 @@
 -- Facts for the arms of the step: which opcode an arm is of, and what its fields are.
 use mathlib.Core.Path.{_≡_, refl, sym, ap, _∙_, subst}
-use mathlib.Core.Bool.{false}
+use mathlib.Core.Bool.{true, false}
 use mathlib.Core.List.{List, [], _∷_}
-use Prim.Native.Nat.{ℕ, suc, _+_, _-_, _*_, _≤_, _<_}
+use Prim.Native.Nat.{ℕ, zero, suc, _+_, _-_, _*_, _≤_, _<_}
 use native.Mathlib.Omega.{arith}
 use native.Mathlib.Decide.{ℕ-discrete}
-use lib.Dec.{T, ltb→lt, eqb→eq}
-use borrow.Author.Tests.{ne-eqb}
+use lib.Dec.{T, ltb→lt}
 use Rattle.hume.specs.Numbers.{canonical}
 use mathlib.Core.Logic.{_⊎_, inl, inr}
 use lib.ListN.{getD}
@@ -20,15 +19,15 @@ use Rattle.laws.specs.Accepted.{InstructionFits, CardFits}
 use Rattle.engine.specs.Turns.{core, Buffers, Turned, Meets, priced}
 use Rattle.engine.specs.Blocks.{making}
 use Rattle.engine.specs.Outcomes.{Applies}
-use Rattle.engine.specs.Ready.{payload}
+use Rattle.engine.specs.Attempts.{seeks}
 use Rattle.engine.specs.declared.regs.Limits.{Limits}
 use Rattle.engine.specs.declared.regs.Regs.{Regs}
 use Rattle.engine.specs.declared.regs.Turn.{Turn}
 use Rattle.engine.proofs.Arms.{price-is}
-use Rattle.engine.proofs.Opcodes.{op-1, op-2, op-3, op-5, op-6, op-19, op-20, op-21, op-36, op-37}
+use Rattle.engine.proofs.Opcodes.{op-1, op-2, op-3, op-5, op-6, op-19, op-20, op-21, op-27, op-28, op-29, op-30, op-31, op-32, op-37}
 use Rattle.engine.proofs.Building.{mk-bool, mk-int, mk-float}
 use Rattle.engine.proofs.Granted.{image-applies}
-use Rattle.hume.specs.Instructions.{CallPrim1, CallPrim2, Raise}
+use Rattle.hume.specs.Instructions.{CallPrim1, CallPrim2, Raise, matches, MatchBool, MatchInt, MatchFloat, MatchTuple, MatchCon, MatchExn}
 
 -- ---- the card
 
@@ -39,80 +38,80 @@ price-most card op f l m =
     let k = f .most (op - 1) (omega arith) in
     omega (arith, e, k)
 
--- ---- what is stored
-
-pub payload-nan : (op c : ℕ) → op ≡ 3 → payload op c ≡ canonical c
-unfolding payload pick
-payload-nan op c e = rw e
-
-pub payload-else : (op c : ℕ) → (op ≡ 3 → ⊥) → payload op c ≡ c
-unfolding payload pick
-payload-else op c n = rw (ne-eqb op 3 n)
-
 -- ---- which opcode
 
-past : (n op : ℕ) → n ≤ op → (op ≡ n → ⊥) → suc n ≤ op
-past n op l k = omega arith
+-- op is none of the k numbers from n on, and there is B besides
+abbrev Others : Type 0 → ℕ → ℕ → ℕ → Type 0
+Others B op n zero = B
+Others B op n (suc k) = Others B op n k × (op ≡ n + k → ⊥)
 
-pub is-block : (op : ℕ) → 4 ≤ op → (op ≡ 4 → ⊥) → 5 ≤ op
-is-block op l n = past 4 op l n
+past : (B : Type 0) (op n k : ℕ) → n ≤ op → Others B op n k → n + k ≤ op
+past B op n zero l o = omega arith
+past B op n (suc k) l o =
+    let r : n + k ≤ op = past B op n k l (o .0) in
+    let d : op ≡ n + k → ⊥ = o .1 in
+    omega arith
 
-pub is-apply : (op : ℕ) → 7 ≤ op → (op ≡ 7 → ⊥) → (op ≡ 8 → ⊥) → (op ≡ 9 → ⊥) → (op ≡ 10 → ⊥) → (op ≡ 11 → ⊥) → (op ≡ 12 → ⊥)
-    → (op ≡ 13 → ⊥) → (op ≡ 14 → ⊥) → (op ≡ 15 → ⊥) → (op ≡ 16 → ⊥) → (op ≡ 17 → ⊥) → (op ≡ 18 → ⊥) → 19 ≤ op
-is-apply op l a b c d e f g h i j k m =
-    past 18 op
-    (past 17 op
-    (past 16 op
-    (past 15 op
-    (past 14 op
-    (past 13 op (past 12 op (past 11 op (past 10 op (past 9 op (past 8 op (past 7 op l a) b) c) d) e) f) g) h) i) j) k)
-    m
+module _ (B : Type 0) (op : ℕ) (least : 1 ≤ op) (o : Others (Others B op 1 18) op 22 18) where
+  -- an opcode that has no arm of its own
+  pub is-apply : 19 ≤ op
+  is-apply = past B op 1 18 least (o .0 .0 .0 .0 .0 .0 .0 .0 .0 .0 .0 .0 .0 .0 .0 .0 .0 .0)
 
-pub is-match : (op : ℕ) → 22 ≤ op → (op ≡ 22 → ⊥) → (op ≡ 23 → ⊥) → (op ≡ 24 → ⊥) → (op ≡ 25 → ⊥) → 26 ≤ op
-is-match op l a b c d = past 25 op (past 24 op (past 23 op (past 22 op l a) b) c) d
+  -- and isn't 19, 20 or 21
+  pub is-schedule : op ≤ 40 → (op < 1) ⊎ (22 ≤ op) → op ≡ 40
+  is-schedule m (inl h) = absurd (omega (arith, least))
+  is-schedule m (inr h) =
+      let r : 40 ≤ op = past (Others B op 1 18) op 22 18 h o in
+      omega arith
 
-pub is-consume : (op : ℕ) → 33 ≤ op → (op ≡ 33 → ⊥) → (op ≡ 34 → ⊥) → (op ≡ 35 → ⊥) → 36 ≤ op
-is-consume op l a b c = past 35 op (past 34 op (past 33 op l a) b) c
+-- ---- what an arm does, by the function that serves several opcodes
 
-pub is-schedule : (op : ℕ) → op ≤ 40 → 38 ≤ op → (op ≡ 38 → ⊥) → (op ≡ 39 → ⊥) → op ≡ 40
-is-schedule op m l a b = omega arith
+module _ (op : ℕ) (P : Program) (a b c : ℕ) (s : State) where
+  pub makes-bool : op ≡ 1 → instruction op P a b c s ≡ making 65536 c s
+  makes-bool e = op-1 op P a b c s e ∙ mk-bool c s
 
--- ---- what an arm of several opcodes does
+  pub makes-int : op ≡ 2 → instruction op P a b c s ≡ making 131072 c s
+  makes-int e = op-2 op P a b c s e ∙ mk-int c s
 
-atoms : (op : ℕ) (P : Program) (a b c : ℕ) (s : State) → 1 ≤ op → op < 4
-    → instruction op P a b c s ≡ making (op * 65536) (payload op c) s
-unfolding payload pick
-atoms op P a b c s l h = by (ℕ-discrete op 1) (ℕ-discrete op 2)
-  where
-    by : Dec (op ≡ 1) → Dec (op ≡ 2) → instruction op P a b c s ≡ making (op * 65536) (payload op c) s
-    by (yes e) d = op-1 op P a b c s e ∙ mk-bool c s ∙ rw e
-    by (no n) (yes e) = op-2 op P a b c s e ∙ mk-int c s ∙ rw e
-    by (no n) (no m) =
-        let e : op ≡ 3 = omega arith in
-        op-3 op P a b c s e ∙ mk-float c s ∙ rw e
+  pub makes-float : (v : ℕ) → v ≡ canonical c → op ≡ 3 → instruction op P a b c s ≡ making 196608 v s
+  makes-float v k e = op-3 op P a b c s e ∙ mk-float c s ∙ ap (λ (x : ℕ). making 196608 x s) (sym k)
 
-pub atoms-of : (op : ℕ) (P : Program) (a b c v : ℕ) (s : State) → 1 ≤ op → op < 4 → v ≡ payload op c
-    → instruction op P a b c s ≡ making (op * 65536) v s
-atoms-of op P a b c v s l h e = atoms op P a b c s l h ∙ ap (λ (x : ℕ). making (op * 65536) x s) (sym e)
+  pub makes-tuple : op ≡ 5 → instruction op P a b c s ≡ mkBlock 262144 a s
+  unfolding MkTuple
+  makes-tuple e = op-5 op P a b c s e
 
-pub blocks : (op : ℕ) (P : Program) (a b c : ℕ) (s : State) → 5 ≤ op → op < 7 → (op ≡ 5 → b ≡ 0)
-    → instruction op P a b c s ≡ mkBlock ((op - 1) * 65536 + b) a s
-unfolding MkTuple MkCon
-blocks op P a b c s l h z = by (ℕ-discrete op 5)
-  where
-    by : Dec (op ≡ 5) → instruction op P a b c s ≡ mkBlock ((op - 1) * 65536 + b) a s
-    by (yes e) = op-5 op P a b c s e ∙ ap (λ (h : ℕ). mkBlock h a s) (rw (e, z e))
-    by (no n) =
-        let e : op ≡ 6 = omega arith in
-        op-6 op P a b c s e ∙ ap (λ (h : ℕ). mkBlock h a s) (rw e)
+  pub makes-con : op ≡ 6 → instruction op P a b c s ≡ mkBlock (327680 + b) a s
+  unfolding MkCon
+  makes-con e = op-6 op P a b c s e
 
-pub consumes : (op : ℕ) (P : Program) (a b c : ℕ) (s : State) → 36 ≤ op → op < 38 → instruction op P a b c s ≡ Consume a s
-unfolding MaybeConsume
-consumes op P a b c s l h = by (ℕ-discrete op 36)
-  where
-    by : Dec (op ≡ 36) → instruction op P a b c s ≡ Consume a s
-    by (yes e) = op-36 op P a b c s e
-    by (no n) = let e : op ≡ 37 = omega arith in op-37 op P a b c s e
+  pub matches-bool : op ≡ 27 → instruction op P a b c s ≡ matches P (seeks false 65536 c) s
+  unfolding MatchBool seeks pick
+  matches-bool e = op-27 op P a b c s e
+
+  pub matches-int : op ≡ 28 → instruction op P a b c s ≡ matches P (seeks false 131072 c) s
+  unfolding MatchInt seeks pick
+  matches-int e = op-28 op P a b c s e
+
+  pub matches-float : (v : ℕ) → v ≡ canonical c → op ≡ 29 → instruction op P a b c s ≡ matches P (seeks false 196608 v) s
+  unfolding MatchFloat seeks pick
+  matches-float v k e =
+      op-29 op P a b c s e ∙ ap (λ (x : ℕ). matches P (seeks false 196608 x) s) (sym k)
+
+  pub matches-tuple : op ≡ 30 → instruction op P a b c s ≡ matches P (seeks false 262144 a) s
+  unfolding MatchTuple seeks pick
+  matches-tuple e = op-30 op P a b c s e
+
+  pub matches-con : op ≡ 31 → instruction op P a b c s ≡ matches P (seeks false (327680 + b) a) s
+  unfolding MatchCon seeks pick
+  matches-con e = op-31 op P a b c s e
+
+  pub matches-exn : op ≡ 32 → instruction op P a b c s ≡ matches P (seeks true (393216 + b) 0) s
+  unfolding MatchExn seeks pick
+  matches-exn e = op-32 op P a b c s e
+
+  pub consumes-maybe : op ≡ 37 → instruction op P a b c s ≡ Consume a s
+  unfolding MaybeConsume
+  consumes-maybe e = op-37 op P a b c s e
 
 meets-as : {lim : Limits} {r : Regs} {b b' : Buffers} {q : Turn} (cost : ℕ) (d e : State → Deed) → ((s : State) → d s ≡ e s)
     → Meets lim r b (priced cost e) q b' → Meets lim r b (priced cost d) q b'
@@ -160,10 +159,6 @@ module _ (P : Program) (k : ℕ) (f : InstructionFits P k) where
   unfolding formatOf format fieldOk
   a-output e = ltb→lt (P .argA k) (P .outputs) (subst (λ (o : ℕ). T (fieldOk P (formatOf o .a) (P .argA k))) e (f .a))
 
-  pub b-unused : P .opcode k ≡ 5 → P .argB k ≡ 0
-  unfolding formatOf format fieldOk
-  b-unused e = eqb→eq (P .argB k) 0 (subst (λ (o : ℕ). T (fieldOk P (formatOf o .b) (P .argB k))) e (f .b))
-
   -- the same of numbers that are read
   pub applies-at : {op a : ℕ} → op ≡ P .opcode k → a ≡ P .argA k → 19 ≤ op → op < 22 → Applies op a
   applies-at {op} {a} e g l h =
@@ -179,11 +174,6 @@ module _ (P : Program) (k : ℕ) (f : InstructionFits P k) where
 
   pub output-at : {a i : ℕ} → P .opcode k ≡ 39 → a ≡ P .argA k → i ≡ P .inputs → i + a < P .inputs + P .outputs
   output-at e g h = omega (arith, a-output e, g, h)
-
-  pub field-b : {op b : ℕ} → op ≡ P .opcode k → b ≡ P .argB k → T (fieldOk P (formatOf op .b) b)
-  field-b {op} {b} e g =
-      subst (λ (o : ℕ). T (fieldOk P (formatOf o .b) b)) (sym e)
-      (subst (λ (x : ℕ). T (fieldOk P (formatOf (P .opcode k) .b) x)) (sym g) (f .b))
 
 -- either way
 pub from-either : {A B X : Type 0} → (A → X) → (B → X) → A ⊎ B → X

@@ -5,27 +5,25 @@ use mathlib.Core.List.{List, [], _∷_, _++_, append-nil, append-assoc}
 use Prim.Native.Nat.{ℕ, suc, _+_, _-_, _*_, _/_, _%_, _^_, _≤_, _<_}
 use native.Mathlib.Decide.{ℕ-discrete}
 use native.Mathlib.Omega.{arith}
-use lib.Dec.{T, leb, ltb, eqb, leb→le, le→leb, ltb→lt, lt→ltb, eqb→eq}
+use lib.Dec.{T, leb, ltb, eqb, leb→le, le→leb, ltb→lt, lt→ltb}
 use lib.ListN.{length, getD, take, drop, set, length-append, length-drop, take-append-drop}
 use lib.Seq.{length-take-le, take-suc, drop-cons, set-at, getD-drop, getD-append-add}
 use borrow.Author.Tests.{eq-eqb, ne-eqb}
 use Rattle.limits.specs.Machine.{ends, goes}
 use Rattle.hume.specs.Tests.{pick}
-use Rattle.hume.specs.Words.{Word, null, bits, isValue, header}
-use Rattle.hume.specs.Numbers.{canonical}
+use Rattle.hume.specs.Words.{Word, null, bits, isValue}
 use Rattle.hume.specs.Image.{Program, orderAt}
 use Rattle.hume.specs.Values.{isEmpty, wireCount}
-use Rattle.hume.specs.Refusals.{fieldOk, formatOf, format}
 use Rattle.hume.specs.State.{State, fault, noRule, Deed, at, next, leaving, turns, fails, lp, isCell, second, ruleAt, ruleCount}
 use Rattle.hume.specs.Instructions.{StartMatches, MatchRule, MatchedRule, MatchNone, MatchAvailable, moved, argument, hasArgument, matches, cellIs}
-use Rattle.hume.specs.Instructions.{MatchBool, MatchInt, MatchFloat, MatchTuple, MatchCon, MatchExn, Reorder, reordered, moveLast, instructions}
-use Rattle.hume.specs.Machine.{instruction, charged}
+use Rattle.hume.specs.Instructions.{Reorder, reordered, moveLast}
+use Rattle.hume.specs.Machine.{charged}
 use Rattle.laws.specs.Sizes.{Small}
 use Rattle.laws.proofs.Tests.{of-true, pick-true, pick-false}
 use Rattle.laws.proofs.Deeds.{need-yes, need-no}
 use Rattle.engine.specs.Fits.{Fit}
 use Rattle.engine.specs.Turns.{Bears, plain, core, Holds, halt, Buffers, Turned, Meets, priced}
-use Rattle.engine.specs.Attempts.{sought, seeks, tallied, concludes, Attempted, faulty, tries, Attempts}
+use Rattle.engine.specs.Attempts.{seeks, tallied, concludes, Attempted, faulty, tries, Attempts}
 use Rattle.engine.specs.declared.Ending.the-variants as ending
 use Rattle.engine.specs.declared.regs.Limits.{Limits}
 use Rattle.engine.specs.declared.regs.Regs.{Regs}
@@ -38,104 +36,39 @@ use Rattle.engine.proofs.WordKinds.{cell-no, cell-is, second-is}
 -- ---- the cell that a word refers to
 
 module _ {n : ℕ} {v : Word} (e : n ≡ bits v) (s : Small v) {he : List ℕ} {hs : List Word} (h : Bears he hs)
-    (inside : n / 2 ^ 28 ≡ 1 → n % 2 ^ 28 + 2 ≤ length hs) (op a b c : ℕ) where
+    (inside : n / 2 ^ 28 ≡ 1 → n % 2 ^ 28 + 2 ≤ length hs) (any : Bool) (k x : ℕ) where
   -- no cell at all, or one with another header
-  seeks-none : isCell hs v (header (op - 26) b) ≡ false → false ≡ seeks op a b c hs v
+  seeks-none : isCell hs v k ≡ false → false ≡ seeks any k x hs v
   unfolding seeks cellIs pick
-  seeks-none k = rw k (by (eqb op 32))
+  seeks-none q = rw q (by any)
     where
       by : (t : Bool) → false ≡ pick t false false
       by true = refl
       by false = refl
 
-  pub seeks-other : (n / 2 ^ 28 ≡ 1 → ⊥) → false ≡ seeks op a b c hs v
-  seeks-other k = seeks-none (cell-no e s hs (header (op - 26) b) k)
+  pub seeks-other : (n / 2 ^ 28 ≡ 1 → ⊥) → false ≡ seeks any k x hs v
+  seeks-other q = seeks-none (cell-no e s hs k q)
 
-  cell-here : n / 2 ^ 28 ≡ 1 → isCell hs v (header (op - 26) b) ≡ eqb (getD he (n % 2 ^ 28) 0) (header (op - 26) b)
-  cell-here k =
-      let l : n % 2 ^ 28 + 2 ≤ length hs = inside k in
-      cell-is e s (header (op - 26) b) k h (omega arith)
+  cell-here : n / 2 ^ 28 ≡ 1 → isCell hs v k ≡ eqb (getD he (n % 2 ^ 28) 0) k
+  cell-here q =
+      let l : n % 2 ^ 28 + 2 ≤ length hs = inside q in
+      cell-is e s k q h (omega arith)
 
-  pub seeks-header : n / 2 ^ 28 ≡ 1 → (getD he (n % 2 ^ 28) 0 ≡ (op - 26) * 65536 + b → ⊥) → false ≡ seeks op a b c hs v
-  seeks-header k d = seeks-none (cell-here k ∙ ne-eqb _ _ d)
+  pub seeks-header : n / 2 ^ 28 ≡ 1 → (getD he (n % 2 ^ 28) 0 ≡ k → ⊥) → false ≡ seeks any k x hs v
+  seeks-header q d = seeks-none (cell-here q ∙ ne-eqb _ _ d)
 
   -- MatchExn asks for no more
-  pub seeks-exn : n / 2 ^ 28 ≡ 1 → getD he (n % 2 ^ 28) 0 ≡ (op - 26) * 65536 + b → op ≡ 32 → true ≡ seeks op a b c hs v
+  pub seeks-any : n / 2 ^ 28 ≡ 1 → getD he (n % 2 ^ 28) 0 ≡ k → any ≡ true → true ≡ seeks any k x hs v
   unfolding seeks
-  seeks-exn k d o = sym (pick-true (eqb op 32) _ _ (of-true (eq-eqb op 32 o)) ∙ cell-here k ∙ eq-eqb _ _ d)
+  seeks-any q d o = sym (pick-true any _ _ (of-true o) ∙ cell-here q ∙ eq-eqb _ _ d)
 
-  pub seeks-second : (x : ℕ) → n / 2 ^ 28 ≡ 1 → getD he (n % 2 ^ 28) 0 ≡ (op - 26) * 65536 + b → (op ≡ 32 → ⊥)
-      → x ≡ sought op a c → eqb (getD he (n % 2 ^ 28 + 1) 0) x ≡ seeks op a b c hs v
+  pub seeks-second : n / 2 ^ 28 ≡ 1 → getD he (n % 2 ^ 28) 0 ≡ k → any ≡ false
+      → eqb (getD he (n % 2 ^ 28 + 1) 0) x ≡ seeks any k x hs v
   unfolding seeks cellIs
-  seeks-second x k d o q =
-      let l : n % 2 ^ 28 + 2 ≤ length hs = inside k in
+  seeks-second q d o =
+      let l : n % 2 ^ 28 + 2 ≤ length hs = inside q in
       let z : second hs v ≡ getD he (n % 2 ^ 28 + 1) 0 = second-is e s h (omega arith) in
-      sym (pick-false (eqb op 32) _ _ (λ t. o (eqb→eq op 32 t)) ∙ rw (cell-here k, eq-eqb _ _ d, z, ← q))
-
-pub sought-word : (op a c : ℕ) → op < 29 → c ≡ sought op a c
-unfolding sought
-sought-word op a c k = sym (pick-true (ltb op 29) _ _ (lt→ltb op 29 k))
-
-pub sought-float : (op a c : ℕ) → op ≡ 29 → canonical c ≡ sought op a c
-unfolding sought
-sought-float op a c k =
-    sym
-    (pick-false (ltb op 29) _ _ (λ t. let l : op < 29 = ltb→lt op 29 t in absurd (omega arith))
-    ∙ pick-true (eqb op 29) _ _ (of-true (eq-eqb op 29 k)))
-
-pub sought-size : (op a c : ℕ) → 29 ≤ op → (op ≡ 29 → ⊥) → a ≡ sought op a c
-unfolding sought
-sought-size op a c k o =
-    sym
-    (pick-false (ltb op 29) _ _ (λ t. let l : op < 29 = ltb→lt op 29 t in absurd (omega arith))
-    ∙ pick-false (eqb op 29) _ _ (λ t. o (eqb→eq op 29 t)))
-
--- ---- the six matches as one
-
-data Which (op : ℕ) : Type 0 where
-  is-bool : op ≡ 27 → Which op
-  is-int : op ≡ 28 → Which op
-  is-float : op ≡ 29 → Which op
-  is-tuple : op ≡ 30 → Which op
-  is-con : op ≡ 31 → Which op
-  is-exn : op ≡ 32 → Which op
-
-which : (op : ℕ) → 27 ≤ op → op ≤ 32 → Which op
-which op l m = by (ℕ-discrete op 27) (ℕ-discrete op 28) (ℕ-discrete op 29) (ℕ-discrete op 30) (ℕ-discrete op 31)
-  where
-    by : Dec (op ≡ 27) → Dec (op ≡ 28) → Dec (op ≡ 29) → Dec (op ≡ 30) → Dec (op ≡ 31) → Which op
-    by (yes e) b c d f = is-bool e
-    by (no a) (yes e) c d f = is-int e
-    by (no a) (no b) (yes e) d f = is-float e
-    by (no a) (no b) (no c) (yes e) f = is-tuple e
-    by (no a) (no b) (no c) (no d) (yes e) = is-con e
-    by (no a) (no b) (no c) (no d) (no f) = is-exn (omega arith)
-
-module _ (P : Program) (a b c : ℕ) (s : State) where
-  abbrev As : ℕ → Type 0
-  As op = T (fieldOk P (formatOf op .b) b) → instruction op P a b c s ≡ matches P (seeks op a b c) s
-
-  -- where the field b is unused it is 0, and so is the header's tag
-  untagged : (op : ℕ) → instruction op P a 0 c s ≡ matches P (seeks op a 0 c) s → b ≡ 0
-      → (instruction op P a 0 c s ≡ instruction op P a b c s) → instruction op P a b c s ≡ matches P (seeks op a b c) s
-  untagged op p z i = sym i ∙ p ∙ ap (λ (x : ℕ). matches P (seeks op a x c) s) (sym z)
-
-  match-as : (op : ℕ) → Which op → As op
-  unfolding instruction instructions formatOf format fieldOk MatchBool MatchInt MatchFloat MatchTuple MatchCon MatchExn seeks sought pick
-  match-as op (is-bool e) = subst As (sym e) (λ t. untagged 27 refl (eqb→eq b 0 t) refl)
-  match-as op (is-int e) = subst As (sym e) (λ t. untagged 28 refl (eqb→eq b 0 t) refl)
-  match-as op (is-float e) = subst As (sym e) (λ t. untagged 29 refl (eqb→eq b 0 t) refl)
-  match-as op (is-tuple e) = subst As (sym e) (λ t. untagged 30 refl (eqb→eq b 0 t) refl)
-  match-as op (is-con e) = subst As (sym e) (λ t. refl)
-  match-as op (is-exn e) = subst As (sym e) (λ t. refl)
-
-  pub match-is : (op : ℕ) → 27 ≤ op → op ≤ 32 → As op
-  match-is op l m = match-as op (which op l m)
-
-  -- 26 is MatchAvailable
-  pub available-is : (op : ℕ) → op ≡ 26 → instruction op P a b c s ≡ MatchAvailable P s
-  unfolding instruction instructions
-  available-is op e = subst (λ (x : ℕ). instruction x P a b c s ≡ MatchAvailable P s) (sym e) refl
+      sym (pick-false any _ _ (λ t. subst T o t) ∙ rw (cell-here q, eq-eqb _ _ d, z))
 
 -- ---- the registers after an instruction that matches
 
@@ -304,33 +237,30 @@ module _ {r : Regs} {st he : List ℕ} {ws hs : List Word} (h : Holds r st he ws
         turn-round true x y = refl
         turn-round false x y = refl
 
-    module _ (op a b c : ℕ) (least : 27 ≤ op) (most : op ≤ 32) (ok : T (fieldOk P (formatOf op .b) b)) where
+    module _ (test : List Word → Word → Bool) where
       -- 27 to 32: there is no such argument,
-      pub compare-none : r .fp < 5 + r .mp → instruction op P a b c s ≡ ends (fault 3)
+      pub compare-none : r .fp < 5 + r .mp → matches P test s ≡ ends (fault 3)
       unfolding matches hasArgument
       compare-none k =
-          match-is P a b c s op least most ok
-          ∙ need-no (leb (5 + r .mp) (r .fp)) 3 _
+          need-no (leb (5 + r .mp) (r .fp)) 3 _
           (λ t. let l : 5 + r .mp ≤ r .fp = leb→le _ _ t in absurd (omega arith))
 
       -- or it is no value,
       pub compare-kind : 5 + r .mp ≤ r .fp → isValue (getD ws (r .fp - (5 + r .mp)) null) ≡ false
-          → instruction op P a b c s ≡ ends (fault 2)
+          → matches P test s ≡ ends (fault 2)
       unfolding matches hasArgument argument
       compare-kind k v =
-          match-is P a b c s op least most ok
-          ∙ need-yes (leb (5 + r .mp) (r .fp)) 3 _ (le→leb _ _ k)
+          need-yes (leb (5 + r .mp) (r .fp)) 3 _ (le→leb _ _ k)
           ∙ need-no (isValue (getD ws (r .fp - (5 + r .mp)) null)) 2 _ (λ t. subst T v t)
 
       -- or it is compared
       pub compare-tries : (hit : Bool) → 5 + r .mp ≤ r .fp → isValue (getD ws (r .fp - (5 + r .mp)) null) ≡ true
-          → hit ≡ seeks op a b c hs (getD ws (r .fp - (5 + r .mp)) null)
-          → instruction op P a b c s ≡ concludes P hit (r .mp + 1) (r .inp) s
+          → hit ≡ test hs (getD ws (r .fp - (5 + r .mp)) null)
+          → matches P test s ≡ concludes P hit (r .mp + 1) (r .inp) s
       unfolding matches hasArgument argument concludes
       compare-tries hit k v e =
           let z : r .inp + 0 ≡ r .inp = omega arith in
-          match-is P a b c s op least most ok
-          ∙ need-yes (leb (5 + r .mp) (r .fp)) 3 _ (le→leb _ _ k)
+          need-yes (leb (5 + r .mp) (r .fp)) 3 _ (le→leb _ _ k)
           ∙ need-yes (isValue (getD ws (r .fp - (5 + r .mp)) null)) 2 _ (of-true v)
           ∙ ap (λ (t : Bool). pick t (turns s (next (moved (plain r) 1 0))) (fails P s (moved (plain r) 1 0))) (sym e)
           ∙ ap (λ (m : ℕ). pick hit (turns s (next (tallied (plain r) (r .mp + 1) m))) (fails P s (tallied (plain r) (r .mp + 1) m))) z
@@ -340,15 +270,6 @@ module _ {r : Regs} {st he : List ℕ} {ws hs : List Word} (h : Holds r st he ws
   argument-word n p k e = let l : r .sp ≡ length ws = h .sp in e ∙ h .stack .get p (omega arith)
 
 -- ---- what an attempt comes to
-
-pub attempts-as : {P : Program} {r : Regs} {b : Buffers} {act act' : State → Deed} {t : Attempt}
-    → ((s : State) → act s ≡ act' s) → Attempts P r b act' t → Attempts P r b act t
-attempts-as {P} {r} {b} {t = t} p a =
-    record {
-      each = λ ws hs h m n.
-          subst (λ (d : Deed). Attempted P (core r ws hs (b .wires) (b .order) false) d t)
-          (sym (p (core r ws hs (b .wires) (b .order) false))) (a .each ws hs h m n);
-    }
 
 module _ {P : Program} {act : State → Deed} {t : Attempt} {lim : Limits} {r : Regs} {b : Buffers} {q : Turn} (cost : ℕ)
     (a : Attempts P r b act t) where

@@ -2,12 +2,10 @@
 use mathlib.Core.Path.{_≡_}
 use mathlib.Core.Bool.{Bool, false}
 use mathlib.Core.List.{List}
-use Prim.Native.Nat.{ℕ, _-_}
-use lib.Dec.{ltb, eqb}
+use Prim.Native.Nat.{ℕ}
 use Rattle.limits.specs.Machine.{ends}
 use Rattle.hume.specs.Tests.{pick}
-use Rattle.hume.specs.Words.{Word, header}
-use Rattle.hume.specs.Numbers.{canonical}
+use Rattle.hume.specs.Words.{Word}
 use Rattle.hume.specs.Image.{Program}
 use Rattle.hume.specs.State.{State, fault, Deed, next, turns, fails, isCell}
 use Rattle.hume.specs.State as state
@@ -16,14 +14,9 @@ use Rattle.engine.specs.Turns.{Holds, Smalls, Buffers, core}
 use Rattle.engine.specs.declared.regs.Regs.{Regs}
 use Rattle.engine.specs.declared.matching.Attempt.{Attempt}
 
--- what the second word of a matched cell must be: c of MatchBool and MatchInt, c of MatchFloat as it is stored, else a
-unfoldable pub sought : ℕ → ℕ → ℕ → ℕ
-sought op a c = pick (ltb op 29) c (pick (eqb op 29) (canonical c) a)
-
--- the test of the match with the opcode op: the headers of the kinds 1 to 6 are asked for by the opcodes 27 to 32
-unfoldable pub seeks : ℕ → ℕ → ℕ → ℕ → List Word → Word → Bool
-seeks op a b c hs w =
-    pick (eqb op 32) (isCell hs w (header (op - 26) b)) (cellIs (header (op - 26) b) (sought op a c) hs w)
+-- the test of a match: the cell's header is h, and its second word x unless any will do
+unfoldable pub seeks : Bool → ℕ → ℕ → List Word → Word → Bool
+seeks any h x hs w = pick any (isCell hs w h) (cellIs h x hs w)
 
 -- the registers with this mp and inp
 abbrev pub tallied : state.Regs → ℕ → ℕ → state.Regs

@@ -2,10 +2,7 @@
 use mathlib.Core.Path.{_≡_}
 use mathlib.Core.List.{List}
 use Prim.Native.Nat.{ℕ, _+_, _*_, _≤_, _<_}
-use lib.Dec.{eqb}
 use lib.ListN.{length}
-use Rattle.hume.specs.Tests.{pick}
-use Rattle.hume.specs.Numbers.{canonical}
 use Rattle.hume.specs.Image.{program, codeAt}
 use Rattle.laws.specs.Accepted.{CardFits, OrderFits, WiresFit}
 use Rattle.engine.specs.Turns.{Buffers}
@@ -41,7 +38,3 @@ pub record Ready (m card at orders : List ℕ) (lim : Limits) (f : Fixed) (r : R
   pub top : TopHeld r (b .stack) (b .heap)
   pub order : OrderFits (program m) (b .order)
   pub wires : WiresFit (program m) (b .wires)
-
--- the payload that MkBool, MkInt and MkFloat store
-unfoldable pub payload : ℕ → ℕ → ℕ
-payload op c = pick (eqb op 3) (canonical c) c

@@ -6,23 +6,19 @@ use super::regs::Limits;
 use super::regs::Regs;
 use super::regs::Turn;
 use super::words::is_value;
-use arith::canonical;
 ghost use mathlib.Core.Path.{_≡_};
 ghost use mathlib.Core.List.{List};
 ghost use Prim.Native.Nat.{ℕ, _+_, _-_, _*_, _/_, _%_, _^_, _≤_, _<_};
-ghost use lib.Dec.{T};
 ghost use lib.ListN.{length};
 ghost use Rattle.hume.specs.Words.{Word, bits};
 ghost use Rattle.hume.specs.Image.{Program, program};
-ghost use Rattle.hume.specs.Refusals.{fieldOk, formatOf};
-ghost use Rattle.hume.specs.Machine.{instruction};
-ghost use Rattle.hume.specs.Instructions.{StartMatches, MatchRule, MatchedRule, MatchNone, MatchAvailable, Reorder, moveLast};
+ghost use Rattle.hume.specs.Instructions.{StartMatches, MatchRule, MatchedRule, MatchNone, MatchAvailable, matches, Reorder, moveLast};
 ghost use Rattle.laws.specs.Sizes.{Small};
 ghost use Rattle.laws.specs.Accepted.{OrderFits};
 ghost use Rattle.engine.specs.Turns.{Bears, Meets, priced, buffers};
 ghost use Rattle.engine.specs.Fits.{Fit, Refs, Imaged, Located};
 ghost use Rattle.engine.specs.Tables.{Placed};
-ghost use Rattle.engine.specs.Attempts.{Attempts, concludes, sought, seeks};
+ghost use Rattle.engine.specs.Attempts.{Attempts, concludes, seeks};
 
 // What a match comes to: the number of its fault, or 0; and then whether it matches, with mp and inp after it.
 struct Attempt {
@@ -32,37 +28,23 @@ struct Attempt {
     inp: usize,
 }
 
-// What the second word of a matched cell must be: "floats by their bits, a NaN c read as 7FC00000".
-fn wanted(op: usize, a: usize, c: u32) -> u32
-    requires { ⌜ a < 256 ⌝ }
-    ensures { λ r. ⌜ r ≡ sought op a c ⌝ }
-{
-    if op < 29 {
-        return c;
-    }
-    if op == 29 {
-        return canonical(c);
-    }
-    a as u32
-}
-
-// Whether a word refers to the cell that the instruction asks for: "a cell of another kind, or None, only fails a match".
-fn cell_matches(op: usize, a: usize, b: u32, c: u32, w: u32, heap: &[u32]) -> bool
-    requires { ⌜ (27 ≤ op) × (op ≤ 32) × (a < 256) × (b < 65536) ⌝ }
+// Whether a word refers to a cell with the header h and, unless any will do, the second word x: "a cell of another kind, or
+// None, only fails a match".
+fn cell_matches(any: bool, h: u32, x: u32, w: u32, heap: &[u32]) -> bool
     requires { ⌜ (w / 2 ^ 28 ≡ 1 → w % 2 ^ 28 + 2 ≤ length (now heap)) ⌝ }
-    ensures { λ r. ⌜ ((v : Word) (hs : List Word) → w ≡ bits v → Small v → Bears (now (heap .entry)) hs → (w / 2 ^ 28 ≡ 1 → w % 2 ^ 28 + 2 ≤ length hs) → r ≡ seeks op a b c hs v) ⌝ }
+    ensures { λ r. ⌜ ((v : Word) (hs : List Word) → w ≡ bits v → Small v → Bears (now (heap .entry)) hs → (w / 2 ^ 28 ≡ 1 → w % 2 ^ 28 + 2 ≤ length hs) → r ≡ seeks any h x hs v) ⌝ }
 {
     if w / 268435456 != 1 {
         return false;
     }
     let p = (w % 268435456) as usize;
-    if heap[p] != (op - 26) as u32 * 65536 + b {
+    if heap[p] != h {
         return false;
     }
-    if op == 32 {
+    if any {
         return true;
     }
-    heap[p + 1] == wanted(op, a, c)
+    heap[p + 1] == x
 }
 
 // The number at i goes to the place before j, those between move down one.
@@ -172,11 +154,10 @@ impl Regs {
     }
 
     // "argument mp, the word at fp-5-mp, then mp + 1"
-    fn compare(self, op: usize, a: usize, b: u32, c: u32, stack: &[u32], heap: &[u32]) -> Attempt
-        requires { ⌜ (27 ≤ op) × (op ≤ 32) × (a < 256) × (b < 65536) ⌝ }
+    fn compare(self, any: bool, h: u32, x: u32, stack: &[u32], heap: &[u32]) -> Attempt
         requires { ⌜ (self .mp < 2 ^ 32) × (self .fp ≤ self .sp) × (self .sp ≤ length (now stack)) × (self .hp ≤ length (now heap)) ⌝ }
         requires { ⌜ Refs self (now stack) ⌝ }
-        ensures { λ r. ⌜ ((P : Program) (wi or : List ℕ) → T (fieldOk P (formatOf op .b) b) → Attempts P self (buffers (now (stack .entry)) (now (heap .entry)) wi or) (instruction op P a b c) r) ⌝ }
+        ensures { λ r. ⌜ ((P : Program) (wi or : List ℕ) → Attempts P self (buffers (now (stack .entry)) (now (heap .entry)) wi or) (matches P (seeks any h x)) r) ⌝ }
     {
         let k = 5 + self.mp;
         if self.fp < k {
@@ -199,34 +180,10 @@ impl Regs {
         }
         Attempt {
             fault: 0,
-            hit: cell_matches(op, a, b, c, w, heap),
+            hit: cell_matches(any, h, x, w, heap),
             mp: self.mp + 1,
             inp: self.inp,
         }
-    }
-
-    // 26 by the input, 27 to 32 by the argument
-    fn attempt(
-        self,
-        op: usize,
-        a: usize,
-        b: u32,
-        c: u32,
-        inputs: usize,
-        stack: &[u32],
-        heap: &[u32],
-        wires: &[u32],
-    ) -> Attempt
-        requires { ⌜ (26 ≤ op) × (op ≤ 32) × (a < 256) × (b < 65536) ⌝ }
-        requires { ⌜ (self .mp < 2 ^ 32) × (self .fp ≤ self .sp) × (self .sp ≤ length (now stack)) × (self .hp ≤ length (now heap)) ⌝ }
-        requires { ⌜ Refs self (now stack) ⌝ }
-        requires { ⌜ (self .inp < 2 ^ 32) × (65 * inputs ≤ length (now wires)) ⌝ }
-        ensures { λ r. ⌜ ((P : Program) (or : List ℕ) → P .inputs ≡ inputs → T (fieldOk P (formatOf op .b) b) → Attempts P self (buffers (now (stack .entry)) (now (heap .entry)) (now (wires .entry)) or) (instruction op P a b c) r) ⌝ }
-    {
-        if op == 26 {
-            return self.available(inputs, wires);
-        }
-        self.compare(op, a, b, c, stack, heap)
     }
 
     // "A failure goes to the rule at order rp"; "3 no rule left after a failed match"
@@ -264,36 +221,58 @@ impl Regs {
         self.charge_time(lim, cost, next)
     }
 
-    // 26 to 32: what is tested differs, a failure doesn't.
-    pub(crate) fn matching(
+    // "26 MatchAvailable"
+    pub(crate) fn match_available(
         self,
         lim: Limits,
         cost: usize,
-        op: usize,
-        a: usize,
-        b: u32,
-        c: u32,
         inputs: usize,
+        image: &[u8],
+        at: &[usize],
+        orders: &[usize],
+        order: &[u32],
+        wires: &[u32],
+    ) -> Turn
+        requires { ⌜ Fit lim self ⌝ }
+        requires { ⌜ Imaged (now image) ⌝ }
+        requires { ⌜ Located (now image) (now at) (now orders) ⌝ }
+        requires { ⌜ OrderFits (program (now image)) (now order) ⌝ }
+        requires { ⌜ self .rs < program (now image) .rulesets ⌝ }
+        requires { ⌜ (inputs ≡ program (now image) .inputs) × (65 * inputs ≤ length (now wires)) ⌝ }
+        ensures { λ r. ⌜ ((st he : List ℕ) → Meets lim self (buffers st he (now (wires .entry)) (now (order .entry))) (priced cost (MatchAvailable (program (now (image .entry))))) r (buffers st he (now (wires .entry)) (now (order .entry)))) ⌝ }
+    {
+        let t = self.available(inputs, wires);
+        if t.fault != 0 {
+            return self.halt(Ending::Fault(t.fault));
+        }
+        self.conclude(lim, cost, t.hit, t.mp, t.inp, image, at, orders, order)
+    }
+
+    // 27 to 32: the cell that is asked for differs, a failure doesn't.
+    pub(crate) fn match_cell(
+        self,
+        lim: Limits,
+        cost: usize,
+        any: bool,
+        h: u32,
+        x: u32,
         image: &[u8],
         at: &[usize],
         orders: &[usize],
         order: &[u32],
         stack: &[u32],
         heap: &[u32],
-        wires: &[u32],
     ) -> Turn
         requires { ⌜ Fit lim self ⌝ }
-        requires { ⌜ (26 ≤ op) × (op ≤ 32) × (a < 256) × (b < 65536) ⌝ }
         requires { ⌜ Imaged (now image) ⌝ }
         requires { ⌜ Located (now image) (now at) (now orders) ⌝ }
         requires { ⌜ OrderFits (program (now image)) (now order) ⌝ }
         requires { ⌜ self .rs < program (now image) .rulesets ⌝ }
         requires { ⌜ (lim .stack ≤ length (now stack)) × (lim .heap ≤ length (now heap)) ⌝ }
         requires { ⌜ Refs self (now stack) ⌝ }
-        requires { ⌜ (inputs ≡ program (now image) .inputs) × (65 * inputs ≤ length (now wires)) ⌝ }
-        ensures { λ r. ⌜ (T (fieldOk (program (now (image .entry))) (formatOf op .b) b) → Meets lim self (buffers (now (stack .entry)) (now (heap .entry)) (now (wires .entry)) (now (order .entry))) (priced cost (instruction op (program (now (image .entry))) a b c)) r (buffers (now (stack .entry)) (now (heap .entry)) (now (wires .entry)) (now (order .entry)))) ⌝ }
+        ensures { λ r. ⌜ ((wi : List ℕ) → Meets lim self (buffers (now (stack .entry)) (now (heap .entry)) wi (now (order .entry))) (priced cost (matches (program (now (image .entry))) (seeks any h x))) r (buffers (now (stack .entry)) (now (heap .entry)) wi (now (order .entry)))) ⌝ }
     {
-        let t = self.attempt(op, a, b, c, inputs, stack, heap, wires);
+        let t = self.compare(any, h, x, stack, heap);
         if t.fault != 0 {
             return self.halt(Ending::Fault(t.fault));
         }

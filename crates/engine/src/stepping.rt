@@ -17,7 +17,7 @@ ghost use Rattle.engine.specs.Turns.{Meets, buffers};
 ghost use Rattle.engine.specs.Fits.{Imaged};
 ghost use Rattle.engine.specs.Tables.{Placed};
 ghost use Rattle.engine.specs.Outcomes.{cycleTable};
-ghost use Rattle.engine.specs.Ready.{Ready, Fixing, payload};
+ghost use Rattle.engine.specs.Ready.{Ready, Fixing};
 
 // What is found once of an image: where its instructions begin, how many wires it has, and its handler with its entry.
 pub struct Fixed {
@@ -63,17 +63,10 @@ pub(crate) fn fix(image: &[u8], at: &[usize]) -> Fixed
     }
 }
 
-// "any NaN stored is 7FC00000"
-fn stored(op: usize, c: u32) -> u32
-    ensures { λ r. ⌜ r ≡ payload op c ⌝ }
-{
-    if op == 3 { canonical(c) } else { c }
-}
-
 impl Regs {
-    // Every function that takes the registers has no other caller, so that the whole machine is one loop, and the fields of an
-    // instruction are read where they are needed. The headers of MkBool, MkInt and
-    // MkFloat are their opcodes, those of MkTuple and MkCon one less; a field that an instruction doesn't name is 0.
+    // One arm for each opcode: an arm of several isn't in the compiler's table of jumps. CallPrim1, CallPrim2 and Raise have one,
+    // since what raises must be inlined here and is too large to be so more than once. The fields of an instruction are read
+    // where they are needed; one that it doesn't name is 0.
     pub(crate) fn step(
         self,
         lim: Limits,
@@ -97,23 +90,22 @@ impl Regs {
         let op = opcode_at(image, code, pc);
         let cost = card[op - 1] as usize;
         match op {
-            1 | 2 | 3 => self.mk_atom(
+            1 => self.mk_atom(lim, cost, 65536, c_at(image, code, pc), stack, heap),
+            2 => self.mk_atom(lim, cost, 131072, c_at(image, code, pc), stack, heap),
+            3 => self.mk_atom(
                 lim,
                 cost,
-                (op * 65536) as u32,
-                stored(op, c_at(image, code, pc)),
+                196608,
+                canonical(c_at(image, code, pc)),
                 stack,
                 heap,
             ),
             4 => self.mk_none(lim, cost, stack),
-            5 | 6 => self.mk_block(
-                lim,
-                cost,
-                ((op - 1) * 65536 + b_at(image, code, pc)) as u32,
-                a_at(image, code, pc),
-                stack,
-                heap,
-            ),
+            5 => self.mk_block(lim, cost, 262144, a_at(image, code, pc), stack, heap),
+            6 => {
+                let h = (327680 + b_at(image, code, pc)) as u32;
+                self.mk_block(lim, cost, h, a_at(image, code, pc), stack, heap)
+            }
             7 => self.push_nulls(lim, cost, a_at(image, code, pc), stack),
             8 => self.pop(lim, cost, a_at(image, code, pc)),
             9 => self.slide(lim, cost, a_at(image, code, pc), stack),
@@ -145,26 +137,97 @@ impl Regs {
             23 => self.match_rule(lim, cost, image, at),
             24 => self.matched_rule(lim, cost),
             25 => self.match_none(lim, cost),
-            26..=32 => self.matching(
-                lim,
-                cost,
-                op,
-                a_at(image, code, pc),
-                b_at(image, code, pc) as u32,
-                c_at(image, code, pc),
-                fixed.inputs,
-                image,
-                at,
-                orders,
-                order,
-                stack,
-                heap,
-                wires,
-            ),
+            26 => self.match_available(lim, cost, fixed.inputs, image, at, orders, order, wires),
+            27 => {
+                let c = c_at(image, code, pc);
+                self.match_cell(
+                    lim,
+                    cost,
+                    false,
+                    65536,
+                    c,
+                    image,
+                    at,
+                    orders,
+                    order,
+                    stack,
+                    heap,
+                )
+            }
+            28 => {
+                let c = c_at(image, code, pc);
+                self.match_cell(
+                    lim,
+                    cost,
+                    false,
+                    131072,
+                    c,
+                    image,
+                    at,
+                    orders,
+                    order,
+                    stack,
+                    heap,
+                )
+            }
+            29 => {
+                let c = canonical(c_at(image, code, pc));
+                self.match_cell(
+                    lim,
+                    cost,
+                    false,
+                    196608,
+                    c,
+                    image,
+                    at,
+                    orders,
+                    order,
+                    stack,
+                    heap,
+                )
+            }
+            30 => {
+                let a = a_at(image, code, pc) as u32;
+                self.match_cell(
+                    lim,
+                    cost,
+                    false,
+                    262144,
+                    a,
+                    image,
+                    at,
+                    orders,
+                    order,
+                    stack,
+                    heap,
+                )
+            }
+            31 => {
+                let h = (327680 + b_at(image, code, pc)) as u32;
+                let a = a_at(image, code, pc) as u32;
+                self.match_cell(
+                    lim,
+                    cost,
+                    false,
+                    h,
+                    a,
+                    image,
+                    at,
+                    orders,
+                    order,
+                    stack,
+                    heap,
+                )
+            }
+            32 => {
+                let h = (393216 + b_at(image, code, pc)) as u32;
+                self.match_cell(lim, cost, true, h, 0, image, at, orders, order, stack, heap)
+            }
             33 => self.unpack(lim, cost, stack, heap),
             34 => self.reorder(lim, cost, image, at, orders, order),
             35 => self.copy_input(lim, cost, a_at(image, code, pc), stack, heap, wires),
-            36 | 37 => self.consume(lim, cost, a_at(image, code, pc), wires),
+            36 => self.consume(lim, cost, a_at(image, code, pc), wires),
+            37 => self.consume(lim, cost, a_at(image, code, pc), wires),
             38 => self.check_outputs(lim, cost, fixed.inputs, fixed.outputs, stack, wires),
             39 => self.write(
                 lim,
