@@ -1,0 +1,180 @@
+use mathlib.Core.Path.{_≡_, refl, sym, _∙_}
+use Prim.Native.Nat.{_-_, _≤_, _<_}
+use native.Mathlib.Omega.{arith}
+use borrow.Author.Needs.{needs}
+use borrow.Author.Tests.{not-false}
+use lib.ListN.{length, take}
+use lib.Seq.{length-take-le}
+use Rattle.sheet.specs.Needed as spec
+use Rattle.ham.proofs.Reading.{no-whole}
+use Rattle.ham.proofs.collect.Statement.{statement}
+use Rattle.ham.proofs.collect.Tie as tie
+use Rattle.ham.proofs.collect.Reads as reads
+use Rattle.ham.proofs.collect.Lts as lts
+use Rattle.ham.proofs.fill.Reads as fill-reads
+use Rattle.sheet.proofs.needed.Reads as needed-reads
+
+abbrev Inv-loop : tie.InvT-loop
+Inv-loop input₀ done₀ upto₀ input done upto =
+    (done ≤ length input) × (length input ≡ length input₀) × (upto ≡ spec.needed (take done input)) × (upto < 36160)
+
+abbrev μ-loop : tie.MeasureT-loop
+μ-loop input₀ done₀ upto₀ input done upto = length input - done
+
+-- src/main.rt:53:34
+slice-reshare-prefix-needed : tie.Need-slice-reshare-prefix-needed Inv-loop μ-loop
+slice-reshare-prefix-needed c = search needs
+
+-- src/main.rt:53:34
+slice-aggregate-needed : tie.Need-slice-aggregate-needed Inv-loop μ-loop
+slice-aggregate-needed c = search needs
+
+-- src/main.rt:53:9
+needed-requires : tie.Need-needed-requires Inv-loop μ-loop
+needed-requires c κs = tt
+
+-- src/main.rt:54:5
+loop-holds : tie.Need-loop-holds Inv-loop μ-loop
+loop-holds c =
+    let needed = c .needed in
+    let needed = c .needed in
+    (omega arith, refl, needed .ensures .is, needed .ensures .small)
+
+-- src/main.rt:55:24
+sub-fill : tie.Need-sub-fill Inv-loop μ-loop
+sub-fill c = search needs
+
+-- src/main.rt:55:24
+part-fill-start : tie.Need-part-fill-start Inv-loop μ-loop
+part-fill-start c = search needs
+
+-- src/main.rt:55:24
+part-fill-end : tie.Need-part-fill-end Inv-loop μ-loop
+part-fill-end c = search needs
+
+-- src/main.rt:55:13
+fill-requires : tie.Need-fill-requires Inv-loop μ-loop
+fill-requires c κs = tt
+
+-- src/main.rt:56:9
+add-done : tie.Need-add-done Inv-loop μ-loop
+add-done c =
+    let fill = c .before .before .before .fill in
+    let input = c .before .before .input in
+    let loop-test = c .before .before .before .before .before .loop-test in
+    let loop = c .before .before .before .before .before .before .loop in
+    let start = c .before .before .before .before .before .before .before .before .before .before in
+    let lent = c .before .before .before .before .fill-arg .given in
+    omega (arith, lent .2, fill .ensures .within, input .given .0, input .given .1, loop-test .taken, loop .inv .1, loop .inv .3, start .pre)
+
+-- src/main.rt:58:13
+same-length : tie.Need-same-length Inv-loop μ-loop
+same-length c =
+    let input = c .before .before .before .before .input in
+    let loop = c .before .before .before .before .before .before .before .before .loop in
+    input .given .1 ∙ loop .inv .1
+
+-- src/main.rt:58:13
+returns : tie.Need-returns Inv-loop μ-loop
+returns c =
+    let fill = c .before .before .before .before .before .fill in
+    let input = c .before .before .before .before .input in
+    let loop-test = c .before .before .before .before .before .before .before .loop-test in
+    let loop = c .before .before .before .before .before .before .before .before .loop in
+    let start = c .before .before .before .before .before .before .before .before .before .before .before .before in
+    let lent = c .before .before .before .before .before .before .fill-arg .given in
+    record { within = omega (arith, lent .2, fill .ensures .within, input .given .0, input .given .1, loop-test .taken, loop .inv .1, loop .inv .3, start .pre); enough = λ e. absurd (no-whole e) }
+
+-- src/main.rt:64:30
+slice-reshare-prefix-needed-2 : tie.Need-slice-reshare-prefix-needed-2 Inv-loop μ-loop
+slice-reshare-prefix-needed-2 c =
+    let fill = c .before .before .before .before .before .fill in
+    let input = c .before .before .before .before .input in
+    let loop-test = c .before .before .before .before .before .before .before .loop-test in
+    let loop = c .before .before .before .before .before .before .before .before .loop in
+    let start = c .before .before .before .before .before .before .before .before .before .before .before .before in
+    let lent = c .before .before .before .before .before .before .fill-arg .given in
+    omega (arith, lent .2, fill .ensures .within, input .given .0, input .given .1, loop-test .taken, loop .inv .1, loop .inv .3, start .pre)
+
+-- src/main.rt:64:30
+slice-aggregate-needed-2 : tie.Need-slice-aggregate-needed-2 Inv-loop μ-loop
+slice-aggregate-needed-2 c =
+    let fill = c .before .before .before .before .before .before .fill in
+    let input = c .before .before .before .before .before .input in
+    let loop-test = c .before .before .before .before .before .before .before .before .loop-test in
+    let loop = c .before .before .before .before .before .before .before .before .before .loop in
+    let start = c .before .before .before .before .before .before .before .before .before .before .before .before .before in
+    let lent = c .before .before .before .before .before .before .before .fill-arg .given in
+    sym (length-take-le _ _ (omega (arith, lent .2, fill .ensures .within, input .given .0, input .given .1, loop-test .taken, loop .inv .1, loop .inv .3, start .pre)))
+
+-- src/main.rt:64:9
+needed-requires-2 : tie.Need-needed-requires-2 Inv-loop μ-loop
+needed-requires-2 c κs = tt
+
+-- src/main.rt:54:5
+loop-less : tie.Need-loop-less Inv-loop μ-loop
+loop-less c =
+    let fill = c .before .before .before .before .before .before .before .fill in
+    let if1 = c .before .before .if1 in
+    let input = c .before .before .before .before .before .before .input in
+    let loop-test = c .before .before .before .before .before .before .before .before .before .loop-test in
+    let loop = c .before .before .before .before .before .before .before .before .before .before .loop in
+    let start = c .before .before .before .before .before .before .before .before .before .before .before .before .before .before in
+    let lent = c .before .before .before .before .before .before .before .before .fill-arg .given in
+    let all = fill .ensures .full (not-false _ (if1 .left)) in
+    omega (arith, lent .2, all, fill .ensures .within, input .given .0, input .given .1, loop-test .taken, loop .inv .1, loop .inv .3, start .pre)
+
+-- src/main.rt:54:5
+loop-again : tie.Need-loop-again Inv-loop μ-loop
+loop-again c =
+    let fill = c .before .before .before .before .before .before .before .fill in
+    let input = c .before .before .before .before .before .before .input in
+    let loop-test = c .before .before .before .before .before .before .before .before .before .loop-test in
+    let loop = c .before .before .before .before .before .before .before .before .before .before .loop in
+    let start = c .before .before .before .before .before .before .before .before .before .before .before .before .before .before in
+    let needed2 = c .needed2 in
+    let lent = c .before .before .before .before .before .before .before .before .fill-arg .given in (
+      omega (arith, lent .2, fill .ensures .within, input .given .0, input .given .1, loop-test .taken, loop .inv .1, loop .inv .3, start .pre),
+      input .given .1 ∙ loop .inv .1,
+      needed2 .ensures .is,
+      needed2 .ensures .small,
+    )
+
+-- src/main.rt:48:1
+same-length-2 : tie.Need-same-length-2 Inv-loop μ-loop
+same-length-2 c =
+    let loop = c .before .loop in
+    loop .inv .1
+
+-- src/main.rt:48:1
+returns-2 : tie.Need-returns-2 Inv-loop μ-loop
+returns-2 c =
+    let loop = c .before .loop in
+    let loop-test = c .loop-test in
+    let i = loop .inv in
+    record { within = i .0; enough = λ e. omega (arith, i .2, loop-test .left) }
+
+pub collect-spec : {M : Type 1} → statement M
+collect-spec =
+    tie.close
+    (tie.spec
+    Inv-loop
+    μ-loop
+    slice-reshare-prefix-needed
+    slice-aggregate-needed
+    needed-requires
+    loop-holds
+    sub-fill
+    part-fill-start
+    part-fill-end
+    fill-requires
+    add-done
+    same-length
+    returns
+    slice-reshare-prefix-needed-2
+    slice-aggregate-needed-2
+    needed-requires-2
+    loop-less
+    loop-again
+    same-length-2
+    returns-2)

@@ -1,0 +1,26 @@
+-- What has been read of standard input.
+use mathlib.Core.Path.{_≡_}
+use mathlib.Core.Bool.{true}
+use mathlib.Core.List.{List}
+use Prim.Native.Nat.{ℕ, _≤_}
+use lib.ListN.{length, take}
+use Rattle.hume.specs.Sheet.{printed}
+use Rattle.sheet.specs.Needed.{needed}
+use Rattle.sheet.specs.Lines.{Text}
+use Rattle.ham.specs.declared.Got.{Got}
+use Rattle.ham.specs.declared.Reply.{Reply}
+
+-- the bytes lie in the part; where it is said that they are all that was asked for, they fill it
+pub record Filled (part : List ℕ) (r : Got) : Type 0 where
+  pub within : r .count ≤ length part
+  pub full : r .whole ≡ true → r .count ≡ length part
+
+-- the bytes lie in the buffer; where it is said that they are all that is needed, they are
+pub record Collected (input : List ℕ) (r : Got) : Type 0 where
+  pub within : r .count ≤ length input
+  pub enough : r .whole ≡ true → needed (take (r .count) input) ≤ r .count
+
+-- the line has what is printed for those bytes
+pub record Replied (input line : List ℕ) (r : Reply) : Type 0 where
+  pub read : Collected input (r .got)
+  pub text : Text 88 line (r .start) (printed (take (r .got .count) input)) 0
