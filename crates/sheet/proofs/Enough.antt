@@ -16,7 +16,7 @@ use Rattle.hume.specs.Call.{Given, figuresOf, outcome}
 use Rattle.hume.specs.Sheet.{imageRead, sheetRead, sheetWord, sheetWords, sheetLength, sheetOk, sheetGiven, sheetRefusal, partsRefusal, figuresLine, refusedLine, printedBy, printed}
 use Rattle.laws.proofs.Tests.{Tested, passes, misses, tested}
 use Rattle.gate.proofs.Tests.{and-yes, and-no}
-use Rattle.sheet.specs.Needed.{needed, sheetNeeded}
+use Rattle.sheet.specs.Needed.{needed, sheetNeeded, Refused, no-image, no-sheet}
 use Rattle.sheet.proofs.Needing.{length-least, none-needed, word-needed, no-more, all-needed, opening-needed, huge-needed, image-needed, sheet-needed}
 use Rattle.sheet.proofs.Deciding.{too-long, readable, no-length, cut-short, image-refused, sheet-refused}
 
@@ -197,20 +197,15 @@ enough-by bytes rest (beyond h l s) k =
 pub printed-enough : (bytes rest : List ℕ) → needed bytes ≤ length bytes → printed (bytes ++ rest) ≡ printed bytes
 printed-enough bytes rest k = enough-by bytes rest (stop bytes) k
 
--- "1 if .. the input ends first", "9 | run sheet length"
-pub data Refused (text : List ℕ) : Type 0 where
-  image : text ≡ refusedLine 1 → Refused text
-  sheet : text ≡ refusedLine 9 → Refused text
-
 cut-by : (bytes : List ℕ) → Stop bytes → length bytes < needed bytes → Refused (printed bytes)
 unfolding sheetRead
-cut-by bytes (opening h) k = image (sym (no-length bytes h))
+cut-by bytes (opening h) k = no-image (sym (no-length bytes h))
 cut-by bytes (huge h l) k = absurd (omega (arith, h, huge-needed bytes h l, k))
-cut-by bytes (amid h l s) k = image (sym (cut-short bytes h l s))
+cut-by bytes (amid h l s) k = no-image (sym (cut-short bytes h l s))
 cut-by bytes (beyond h l s) k =
     let w : length (sheetRead bytes) < sheetNeeded (imageRead bytes) (sheetRead bytes) =
     omega (arith, sheet-needed bytes h l s, k, s, length-drop (full bytes 0) bytes) in
-    sheet
+    no-sheet
     (sym
     (parts-cut (imageRead bytes) (sheetRead bytes) (stage (imageRead bytes) (sheetRead bytes)) w
     ∙ readable bytes h l s))
@@ -218,3 +213,53 @@ cut-by bytes (beyond h l s) k =
 -- an input that ends before what is needed is refused, and no figures are printed
 pub printed-cut : (bytes : List ℕ) → length bytes < needed bytes → Refused (printed bytes)
 printed-cut bytes k = cut-by bytes (stop bytes) k
+
+-- ---- what is needed stays so until it is there
+
+sheet-kept : (image sheet more : List ℕ) → Stage image sheet → length (sheet ++ more) < sheetNeeded image sheet
+    → sheetNeeded image (sheet ++ more) ≡ sheetNeeded image sheet
+sheet-kept image sheet more (turned h) k = absurd (omega (arith, none-needed image sheet h, k))
+sheet-kept image sheet more (unknown e h) k =
+    let n = word-needed image sheet e h in
+    sym (word-needed image (sheet ++ more) e (omega (arith, n, k))) ∙ n
+sheet-kept image sheet more (wrong e h d) k =
+    absurd (omega (arith, h, no-more image sheet e h d, length-append sheet more, k))
+sheet-kept image sheet more (right e h s) k =
+    sym
+    (all-needed image (sheet ++ more) e (omega (arith, h, length-append sheet more))
+    (word-append sheet more 0 (omega arith) ∙ s))
+    ∙ all-needed image sheet e h s
+
+kept-by : (bytes more : List ℕ) → Stop bytes → length (bytes ++ more) < needed bytes → needed (bytes ++ more) ≡ needed bytes
+unfolding imageRead sheetRead
+kept-by bytes more (opening h) k =
+    let n = opening-needed bytes h in
+    sym (opening-needed (bytes ++ more) (omega (arith, n, k))) ∙ n
+kept-by bytes more (huge h l) k = absurd (omega (arith, h, huge-needed bytes h l, length-append bytes more, k))
+kept-by bytes more (amid h l s) k =
+    let f : full (bytes ++ more) 0 ≡ full bytes 0 = full-append bytes more 0 h in
+    let n = image-needed bytes h l s in
+    sym
+    (image-needed (bytes ++ more) (omega (arith, h, length-append bytes more)) (omega (arith, f, l)) (omega (arith, f, n, k)))
+    ∙ f
+    ∙ n
+kept-by bytes more (beyond h l s) k =
+    let f : full (bytes ++ more) 0 ≡ full bytes 0 = full-append bytes more 0 h in
+    let m = full bytes 0 in
+    let i : imageRead (bytes ++ more) ≡ imageRead bytes =
+    ap (λ (k : ℕ). take k (bytes ++ more)) f ∙ take-append-le m bytes more s in
+    let j : sheetRead (bytes ++ more) ≡ sheetRead bytes ++ more =
+    ap (λ (k : ℕ). drop k (bytes ++ more)) f ∙ drop-append-le m bytes more s in
+    let n = sheet-needed bytes h l s in
+    let w : length (sheetRead bytes ++ more) < sheetNeeded (imageRead bytes) (sheetRead bytes) =
+    omega (arith, n, k, s, length-append bytes more, length-append (sheetRead bytes) more, length-drop m bytes) in
+    sym
+    (sheet-needed (bytes ++ more) (omega (arith, h, length-append bytes more)) (omega (arith, f, l))
+    (omega (arith, f, s, length-append bytes more)))
+    ∙ (λ q. f q + sheetNeeded (i q) (j q))
+    ∙ ap (λ (x : ℕ). m + x)
+    (sheet-kept (imageRead bytes) (sheetRead bytes) more (stage (imageRead bytes) (sheetRead bytes)) w)
+    ∙ n
+
+pub needed-kept : (bytes more : List ℕ) → length (bytes ++ more) < needed bytes → needed (bytes ++ more) ≡ needed bytes
+needed-kept bytes more k = kept-by bytes more (stop bytes) k

@@ -1,12 +1,13 @@
 use mathlib.Core.Path.{_≡_, refl, sym, _∙_}
-use Prim.Native.Nat.{_-_, _≤_, _<_}
+use Prim.Native.Nat.{ℕ, _+_, _-_, _≤_, _<_}
 use native.Mathlib.Omega.{arith}
+use borrow.Author.Count.{below-none}
 use borrow.Author.Needs.{needs}
-use borrow.Author.Tests.{not-false}
+use borrow.Author.Tests.{not-true, not-false}
 use lib.ListN.{length, take}
 use lib.Seq.{length-take-le}
 use Rattle.sheet.specs.Needed as spec
-use Rattle.ham.proofs.Reading.{no-whole}
+use Rattle.ham.proofs.Reading.{not-whole, not-cut, room, still, all-asked}
 use Rattle.ham.proofs.collect.Statement.{statement}
 use Rattle.ham.proofs.collect.Tie as tie
 use Rattle.ham.proofs.collect.Reads as reads
@@ -16,7 +17,11 @@ use Rattle.sheet.proofs.needed.Reads as needed-reads
 
 abbrev Inv-loop : tie.InvT-loop
 Inv-loop input₀ done₀ upto₀ input done upto =
-    (done ≤ length input) × (length input ≡ length input₀) × (upto ≡ spec.needed (take done input)) × (upto < 36160)
+    (done ≤ length input)
+    × (length input ≡ length input₀)
+    × (upto ≡ spec.needed (take done input))
+    × (upto < 36160)
+    × ((k : ℕ) → k < done → k < spec.needed (take k input))
 
 abbrev μ-loop : tie.MeasureT-loop
 μ-loop input₀ done₀ upto₀ input done upto = length input - done
@@ -37,8 +42,7 @@ needed-requires c κs = tt
 loop-holds : tie.Need-loop-holds Inv-loop μ-loop
 loop-holds c =
     let needed = c .needed in
-    let needed = c .needed in
-    (omega arith, refl, needed .ensures .is, needed .ensures .small)
+    (omega arith, refl, needed .ensures .is, needed .ensures .small, below-none _)
 
 -- src/main.rt:55:24
 sub-fill : tie.Need-sub-fill Inv-loop μ-loop
@@ -59,13 +63,13 @@ fill-requires c κs = tt
 -- src/main.rt:56:9
 add-done : tie.Need-add-done Inv-loop μ-loop
 add-done c =
-    let fill = c .before .before .before .fill in
-    let input = c .before .before .input in
-    let loop-test = c .before .before .before .before .before .loop-test in
-    let loop = c .before .before .before .before .before .before .loop in
     let start = c .before .before .before .before .before .before .before .before .before .before in
+    let loop = c .before .before .before .before .before .before .loop in
+    let loop-test = c .before .before .before .before .before .loop-test in
+    let input = c .before .before .input in
+    let fill = c .before .before .before .fill in
     let lent = c .before .before .before .before .fill-arg .given in
-    omega (arith, lent .2, fill .ensures .within, input .given .0, input .given .1, loop-test .taken, loop .inv .1, loop .inv .3, start .pre)
+    omega (arith, room (start .pre) (loop .inv .1) (loop .inv .3) (loop-test .taken) (lent .2) (input .given .0) (input .given .1) (fill .ensures .within) .most, loop .inv .3)
 
 -- src/main.rt:58:13
 same-length : tie.Need-same-length Inv-loop μ-loop
@@ -77,35 +81,45 @@ same-length c =
 -- src/main.rt:58:13
 returns : tie.Need-returns Inv-loop μ-loop
 returns c =
-    let fill = c .before .before .before .before .before .fill in
-    let input = c .before .before .before .before .input in
-    let loop-test = c .before .before .before .before .before .before .before .loop-test in
-    let loop = c .before .before .before .before .before .before .before .before .loop in
     let start = c .before .before .before .before .before .before .before .before .before .before .before .before in
+    let loop = c .before .before .before .before .before .before .before .before .loop in
+    let loop-test = c .before .before .before .before .before .before .before .loop-test in
+    let input = c .before .before .before .before .input in
+    let fill = c .before .before .before .before .before .fill in
+    let if1 = c .if1 in
     let lent = c .before .before .before .before .before .before .fill-arg .given in
-    record { within = omega (arith, lent .2, fill .ensures .within, input .given .0, input .given .1, loop-test .taken, loop .inv .1, loop .inv .3, start .pre); enough = λ e. absurd (no-whole e) }
+    let r = room (start .pre) (loop .inv .1) (loop .inv .3) (loop-test .taken) (lent .2) (input .given .0) (input .given .1) (fill .ensures .within) in
+    let a = still (loop .input) (fill .last .0) (loop .done) (loop .upto - loop .done) (loop .inv .0) (loop .upto) (loop .inv .2) (fill .result .count) (fill .ensures .within) in
+    record {
+      within = r .new;
+      asked =
+          all-asked (loop .input) (fill .last .0) (loop .done) (loop .upto - loop .done) (loop .inv .0) (loop .upto) (loop .inv .2) (loop .inv .4) (fill .result .count) (fill .ensures .within) (r .most);
+      enough = λ e. absurd (not-whole e);
+      cut =
+          λ e. let u : loop .done + fill .result .count < loop .upto = omega (arith, lent .2, input .given .0, r .some, fill .ensures .short (not-true _ (if1 .taken))) in omega (arith, a u, u);
+    }
 
 -- src/main.rt:64:30
 slice-reshare-prefix-needed-2 : tie.Need-slice-reshare-prefix-needed-2 Inv-loop μ-loop
 slice-reshare-prefix-needed-2 c =
-    let fill = c .before .before .before .before .before .fill in
-    let input = c .before .before .before .before .input in
-    let loop-test = c .before .before .before .before .before .before .before .loop-test in
-    let loop = c .before .before .before .before .before .before .before .before .loop in
     let start = c .before .before .before .before .before .before .before .before .before .before .before .before in
+    let loop = c .before .before .before .before .before .before .before .before .loop in
+    let loop-test = c .before .before .before .before .before .before .before .loop-test in
+    let input = c .before .before .before .before .input in
+    let fill = c .before .before .before .before .before .fill in
     let lent = c .before .before .before .before .before .before .fill-arg .given in
-    omega (arith, lent .2, fill .ensures .within, input .given .0, input .given .1, loop-test .taken, loop .inv .1, loop .inv .3, start .pre)
+    room (start .pre) (loop .inv .1) (loop .inv .3) (loop-test .taken) (lent .2) (input .given .0) (input .given .1) (fill .ensures .within) .new
 
 -- src/main.rt:64:30
 slice-aggregate-needed-2 : tie.Need-slice-aggregate-needed-2 Inv-loop μ-loop
 slice-aggregate-needed-2 c =
-    let fill = c .before .before .before .before .before .before .fill in
-    let input = c .before .before .before .before .before .input in
-    let loop-test = c .before .before .before .before .before .before .before .before .loop-test in
-    let loop = c .before .before .before .before .before .before .before .before .before .loop in
     let start = c .before .before .before .before .before .before .before .before .before .before .before .before .before in
+    let loop = c .before .before .before .before .before .before .before .before .before .loop in
+    let loop-test = c .before .before .before .before .before .before .before .before .loop-test in
+    let input = c .before .before .before .before .before .input in
+    let fill = c .before .before .before .before .before .before .fill in
     let lent = c .before .before .before .before .before .before .before .fill-arg .given in
-    sym (length-take-le _ _ (omega (arith, lent .2, fill .ensures .within, input .given .0, input .given .1, loop-test .taken, loop .inv .1, loop .inv .3, start .pre)))
+    sym (length-take-le _ _ (room (start .pre) (loop .inv .1) (loop .inv .3) (loop-test .taken) (lent .2) (input .given .0) (input .given .1) (fill .ensures .within) .new))
 
 -- src/main.rt:64:9
 needed-requires-2 : tie.Need-needed-requires-2 Inv-loop μ-loop
@@ -116,28 +130,31 @@ loop-less : tie.Need-loop-less Inv-loop μ-loop
 loop-less c =
     let fill = c .before .before .before .before .before .before .before .fill in
     let if1 = c .before .before .if1 in
-    let input = c .before .before .before .before .before .before .input in
-    let loop-test = c .before .before .before .before .before .before .before .before .before .loop-test in
-    let loop = c .before .before .before .before .before .before .before .before .before .before .loop in
     let start = c .before .before .before .before .before .before .before .before .before .before .before .before .before .before in
+    let loop = c .before .before .before .before .before .before .before .before .before .before .loop in
+    let loop-test = c .before .before .before .before .before .before .before .before .before .loop-test in
+    let input = c .before .before .before .before .before .before .input in
     let lent = c .before .before .before .before .before .before .before .before .fill-arg .given in
     let all = fill .ensures .full (not-false _ (if1 .left)) in
-    omega (arith, lent .2, all, fill .ensures .within, input .given .0, input .given .1, loop-test .taken, loop .inv .1, loop .inv .3, start .pre)
+    let r = room (start .pre) (loop .inv .1) (loop .inv .3) (loop-test .taken) (lent .2) (input .given .0) (input .given .1) (fill .ensures .within) in
+    omega (arith, lent .2, input .given .0, input .given .1, all, r .new, r .some)
 
 -- src/main.rt:54:5
 loop-again : tie.Need-loop-again Inv-loop μ-loop
 loop-again c =
-    let fill = c .before .before .before .before .before .before .before .fill in
-    let input = c .before .before .before .before .before .before .input in
-    let loop-test = c .before .before .before .before .before .before .before .before .before .loop-test in
-    let loop = c .before .before .before .before .before .before .before .before .before .before .loop in
     let start = c .before .before .before .before .before .before .before .before .before .before .before .before .before .before in
+    let loop = c .before .before .before .before .before .before .before .before .before .before .loop in
+    let loop-test = c .before .before .before .before .before .before .before .before .before .loop-test in
+    let input = c .before .before .before .before .before .before .input in
+    let fill = c .before .before .before .before .before .before .before .fill in
     let needed2 = c .needed2 in
-    let lent = c .before .before .before .before .before .before .before .before .fill-arg .given in (
-      omega (arith, lent .2, fill .ensures .within, input .given .0, input .given .1, loop-test .taken, loop .inv .1, loop .inv .3, start .pre),
+    let lent = c .before .before .before .before .before .before .before .before .fill-arg .given in
+    let r = room (start .pre) (loop .inv .1) (loop .inv .3) (loop-test .taken) (lent .2) (input .given .0) (input .given .1) (fill .ensures .within) in (
+      r .new,
       input .given .1 ∙ loop .inv .1,
       needed2 .ensures .is,
       needed2 .ensures .small,
+      all-asked (loop .input) (fill .last .0) (loop .done) (loop .upto - loop .done) (loop .inv .0) (loop .upto) (loop .inv .2) (loop .inv .4) (fill .result .count) (fill .ensures .within) (r .most),
     )
 
 -- src/main.rt:48:1
@@ -152,7 +169,7 @@ returns-2 c =
     let loop = c .before .loop in
     let loop-test = c .loop-test in
     let i = loop .inv in
-    record { within = i .0; enough = λ e. omega (arith, i .2, loop-test .left) }
+    record { within = i .0; asked = i .4; enough = λ e. omega (arith, i .2, loop-test .left); cut = λ e. absurd (not-cut e) }
 
 pub collect-spec : {M : Type 1} → statement M
 collect-spec =

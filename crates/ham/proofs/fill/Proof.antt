@@ -1,4 +1,4 @@
-use Rattle.ham.proofs.Reading.{no-whole}
+use Rattle.ham.proofs.Reading.{not-whole, not-cut}
 use mathlib.Core.Path.{_≡_, refl, _∙_}
 use Prim.Native.Nat.{_-_, _≤_}
 use native.Mathlib.Omega.{arith}
@@ -59,7 +59,7 @@ same-length c = search needs
 
 -- src/main.rt:30:13
 returns : tie.Need-returns Inv-loop μ-loop
-returns c = record { within = search needs; full = λ e. absurd (no-whole e) }
+returns c = record { within = search needs; full = λ e. absurd (not-whole e); short = λ e. search needs }
 
 -- src/main.rt:36:9
 add-done : tie.Need-add-done Inv-loop μ-loop
@@ -79,7 +79,7 @@ same-length-2 c = search needs
 
 -- src/main.rt:22:1
 returns-2 : tie.Need-returns-2 Inv-loop μ-loop
-returns-2 c = search needs
+returns-2 c = record { within = search needs; full = λ e. search needs; short = λ e. absurd (not-cut e) }
 
 pub fill-spec : {M : Type 1} → statement M
 fill-spec =
