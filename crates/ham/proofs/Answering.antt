@@ -8,12 +8,12 @@ use native.Mathlib.Omega.{arith}
 use lib.ListN.{length, take, drop, take-append-drop}
 use lib.Seq.{length-take-le, take-all}
 use Rattle.hume.specs.Sheet.{printed}
-use Rattle.sheet.specs.Needed.{needed, Refused}
+use Rattle.sheet.specs.Needed.{Refused}
 use Rattle.sheet.proofs.Enough.{printed-enough, printed-cut}
 use Rattle.ham.specs.Read.{Replied}
 use Rattle.ham.specs.declared.Reply.{Reply}
 
-module _ (input line : List ℕ) (r : Reply) (p : Replied input line r) where
+module _ (input before line : List ℕ) (r : Reply) (p : Replied input before line r) where
   -- a read that fails, or an input that ends too early, never gives figures
   pub cut-refused : r .got .whole ≡ false → Refused (drop (r .start) line)
   cut-refused e =

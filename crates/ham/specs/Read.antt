@@ -25,6 +25,6 @@ pub record Collected (input : List ℕ) (r : Got) : Type 0 where
   pub cut : r .whole ≡ false → r .count < needed (take (r .count) input)
 
 -- the line has what is printed for those bytes
-pub record Replied (input line : List ℕ) (r : Reply) : Type 0 where
+pub record Replied (input before line : List ℕ) (r : Reply) : Type 0 where
   pub read : Collected input (r .got)
-  pub text : Text 88 line (r .start) (printed (take (r .got .count) input)) 0
+  pub text : Text 88 before line (r .start) (printed (take (r .got .count) input)) 0 88

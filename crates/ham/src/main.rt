@@ -73,7 +73,7 @@ fn collect(input: &mut [u8]) -> Got
 // An input that can't be read ends there: what is printed is then a refusal.
 fn respond(input: &mut [u8], line: &mut [u8; 88]) -> Reply
     requires { ⌜ 36159 ≤ length (now input) ⌝ }
-    ensures { λ r. ⌜ Replied (now (input .exit)) (now (line .exit)) r ⌝ }
+    ensures { λ r. ⌜ Replied (now (input .exit)) (now (line .entry)) (now (line .exit)) r ⌝ }
 {
     let got = collect(input);
     let n = got.count;

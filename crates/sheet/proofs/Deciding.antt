@@ -1,16 +1,15 @@
 -- What is printed, test after test, in the order in which the code makes them.
 use mathlib.Core.Path.{_≡_, refl, sym, ap, _∙_}
-use mathlib.Core.Bool.{Bool, true, false, _&&_}
-use mathlib.Core.List.{List, [], _∷_}
-use Prim.Native.Nat.{ℕ, zero, suc, _+_, _≤_, _<_}
+use mathlib.Core.Bool.{true, false}
+use mathlib.Core.List.{List}
+use Prim.Native.Nat.{ℕ, zero, suc, _≤_, _<_}
 use native.Mathlib.Omega.{arith}
 use borrow.Author.Tests.{le-leb, lt-leb}
-use lib.Dec.{leb}
 use lib.ListN.{length, take, drop, replicate}
 use lib.Seq.{sets}
 use Rattle.hume.specs.Image.{program, full}
 use Rattle.hume.specs.Refusals.{unless, imageRefusal}
-use Rattle.hume.specs.Call.{Given, Figures, figuresOf, outcome, ran, refused, firstOf, lentRefusal, refusal, answerBy, answer}
+use Rattle.hume.specs.Call.{Given, figuresOf, outcome, ran, refused, firstOf, lentRefusal, refusal, answerBy, answer}
 use Rattle.hume.specs.Sheet.{imageReadable, imageRead, sheetRead, sheetOk, sheetGiven, sheetRefusal, partsRefusal, programRefusal, figuresLine, refusedLine, printedBy, printed}
 use Rattle.gate.proofs.Tests.{and-yes, and-no}
 use Rattle.host.specs.Told.{eight, recordedBy, recorded}

@@ -1,10 +1,10 @@
 -- Lists that are filled from the front: a sheet's words, and the first order.
 use mathlib.Core.Path.{_≡_, refl, sym, ap, _∙_}
 use mathlib.Core.List.{List, [], _∷_, _++_, append-assoc}
-use Prim.Native.Nat.{ℕ, zero, suc, _+_, _-_, _*_, _≤_, _<_}
+use Prim.Native.Nat.{ℕ, zero, suc, _+_, _-_, _≤_, _<_}
 use native.Mathlib.Numerals.{add-one}
 use native.Mathlib.Omega.{arith}
-use lib.ListN.{length, getD, set, take, drop, replicate, length-append, length-replicate}
+use lib.ListN.{length, getD, set, take, drop}
 use borrow.Rule.Slice.PartMut.{midOf, postOf, putMid}
 use lib.Seq.{length-take-le, drop-cons, set-at, take-at, take-append-add}
 use Rattle.hume.specs.Image.{Program, program, byte}

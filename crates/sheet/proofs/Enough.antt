@@ -1,21 +1,20 @@
 -- "Bytes after it aren't read": once as many bytes have been read as are needed, whatever comes after them changes nothing of what is
 -- printed. And an input that ends before is refused.
-use mathlib.Core.Path.{_≡_, refl, sym, ap, _∙_, subst}
+use mathlib.Core.Path.{_≡_, refl, sym, ap, _∙_}
 use mathlib.Core.Bool.{Bool, true, false, _&&_}
-use mathlib.Core.List.{List, [], _∷_, _++_}
+use mathlib.Core.List.{List, _∷_, _++_}
 use Prim.Native.Nat.{ℕ, zero, suc, _+_, _-_, _*_, _≤_, _<_}
 use native.Mathlib.Omega.{arith}
-use borrow.Author.Tests.{le-leb, lt-leb, le-ltb, lt-ltb, eq-eqb, ne-eqb, ltb-true, ltb-false, eqb-true, eqb-false}
+use borrow.Author.Tests.{le-leb, lt-leb, ne-eqb, ltb-true, ltb-false, eqb-true, eqb-false}
 use lib.Dec.{leb, ltb, eqb}
 use lib.ListN.{length, getD, take, drop, length-append, length-drop, List·getD-append}
 use lib.Seq.{take-append-le, drop-append-le}
-use Rattle.hume.specs.Tests.{pick}
 use Rattle.hume.specs.Image.{program, byte, half, full}
 use Rattle.hume.specs.Refusals.{imageRefusal}
 use Rattle.hume.specs.Call.{Given, figuresOf, outcome}
 use Rattle.hume.specs.Sheet.{imageRead, sheetRead, sheetWord, sheetWords, sheetLength, sheetOk, sheetGiven, sheetRefusal, partsRefusal, figuresLine, refusedLine, printedBy, printed}
 use Rattle.laws.proofs.Tests.{Tested, passes, misses, tested}
-use Rattle.gate.proofs.Tests.{and-yes, and-no}
+use Rattle.gate.proofs.Tests.{and-no}
 use Rattle.sheet.specs.Needed.{needed, sheetNeeded, Refused, no-image, no-sheet}
 use Rattle.sheet.proofs.Needing.{length-least, none-needed, word-needed, no-more, all-needed, opening-needed, huge-needed, image-needed, sheet-needed}
 use Rattle.sheet.proofs.Deciding.{too-long, readable, no-length, cut-short, image-refused, sheet-refused}

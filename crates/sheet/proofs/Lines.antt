@@ -1,16 +1,16 @@
 -- A line that is written from its end: one byte more in front, the digits of a number, a text, the figures.
 use mathlib.Core.Path.{_≡_, refl, sym, ap, _∙_}
 use mathlib.Core.List.{List, [], _∷_, _++_}
-use Prim.Native.Nat.{ℕ, zero, suc, _+_, _-_, _*_, _/_, _%_, _≤_, _<_}
+use Prim.Native.Nat.{ℕ, zero, suc, _+_, _-_, _/_, _%_, _≤_, _<_}
 use native.Mathlib.Nat.{mod-eq-of-lt}
 use native.Mathlib.Omega.{arith}
 use borrow.Author.Tests.{lt-ltb, le-ltb}
-use lib.ListN.{length, getD, set, take, drop, length-set, drop-of-length-le}
-use lib.Seq.{length-take-le, drop-cons, set-split, drop-at}
+use lib.ListN.{length, getD, set, take, drop, length-set, length-drop, take-append-drop, drop-of-length-le}
+use lib.Seq.{length-take-le, drop-cons, set-split, drop-at, take-set-le, take-take}
 use Rattle.hume.specs.Tests.{pick}
 use Rattle.hume.specs.Sheet.{digits, decimal, figuresLine, refusedLine, space, newline}
 use Rattle.hume.specs.Call.{Figures}
-use Rattle.sheet.specs.Lines.{Text}
+use Rattle.sheet.specs.Lines.{Kept, Text}
 
 -- a byte in front of what stands at k
 pub put-front : (l : List ℕ) (k x : ℕ) → 1 ≤ k → k ≤ length l → drop (k - 1) (set l (k - 1) x) ≡ x ∷ drop k l
@@ -54,8 +54,46 @@ text-front text t k low high =
 -- ---- a line
 
 -- the same text, otherwise said
-pub retold : {l t t' : List ℕ} {size r least : ℕ} → Text size l r t least → t ≡ t' → Text size l r t' 0
-retold x e = record { is = x .is ∙ e; low = omega arith; high = x .high; sized = x .sized }
+pub retold : {before l t t' : List ℕ} {size r least most : ℕ} → Text size before l r t least most → t ≡ t'
+    → Text size before l r t' 0 most
+retold x e = record { is = x .is ∙ e; kept = x .kept; low = omega arith; high = x .high; sized = x .sized }
+
+-- two lines that have the same text, where the same was before, are the same line, and the text begins at one place
+pub record Same (l m : List ℕ) (r s : ℕ) : Type 0 where
+  pub place : r ≡ s
+  pub line : l ≡ m
+
+pub one-line : (size : ℕ) (before l m text : List ℕ) (r s : ℕ) → Text size before l r text 0 size
+    → Text size before m s text 0 size → Same l m r s
+one-line size before l m text r s x y =
+    let a : length l - r ≡ length text = sym (length-drop r l) ∙ ap length (x .is) in
+    let b : length m - s ≡ length text = sym (length-drop s m) ∙ ap length (y .is) in
+    let e : r ≡ s = omega (arith, a, b, x .high, y .high, x .sized, y .sized) in
+    let whole : (k : List ℕ) (i : ℕ) → Text size before k i text 0 size → k ≡ take i before ++ text =
+    λ k i z. sym (take-append-drop i k) ∙ (λ j. z .kept .front j ++ z .is j) in
+    record { place = e; line = whole l r x ∙ ap (λ (i : ℕ). take i before ++ text) e ∙ sym (whole m s y) }
+
+-- ---- what stands in front is kept
+
+pub kept-all : (l : List ℕ) (r : ℕ) → Kept l l r
+kept-all l r = record { front = refl }
+
+pub kept-both : {a b c : List ℕ} {r s : ℕ} → Kept a b r → Kept b c s → s ≤ r → Kept a c s
+kept-both {a} {b} {r} {s} p q h =
+    record {
+      front =
+          q .front
+          ∙ sym (take-take s r b h)
+          ∙ ap (λ (t : List ℕ). take s t) (p .front)
+          ∙ take-take s r a h;
+    }
+
+-- by a byte at the place before k, and further up
+pub kept-set : (l : List ℕ) (k x r : ℕ) → r ≤ k → Kept l (set l k x) r
+kept-set l k x r h = record { front = take-set-le r l k x h }
+
+pub kept-front : (l before : List ℕ) (k x : ℕ) → Kept before l k → Kept before (set l (k - 1) x) (k - 1)
+kept-front l before k x e = kept-both e (kept-set l (k - 1) x (k - 1) (omega arith)) (omega arith)
 
 -- a line ends where the buffer does
 pub line-end : (l : List ℕ) (n : ℕ) → length l ≡ n → drop n l ≡ []
@@ -65,14 +103,16 @@ line-end l n e =
 
 -- a figure is put in front of the byte that is there already
 pub figure-front : (line l : List ℕ) (end n after r : ℕ) → 11 ≤ end → end ≤ length line
-    → Text (length (set line (end - 1) after)) l r (decimal n (drop (end - 1) (set line (end - 1) after))) (end - 1 - 10)
-    → Text (length line) l r (decimal n (after ∷ drop end line)) (end - 11)
+    → Text (length (set line (end - 1) after)) (set line (end - 1) after) l r
+    (decimal n (drop (end - 1) (set line (end - 1) after))) (end - 1 - 10) (end - 1)
+    → Text (length line) line l r (decimal n (after ∷ drop end line)) (end - 11) end
 figure-front line l end n after r low high x =
     let e = length-set line (end - 1) after in
     record {
       is = x .is ∙ ap (λ (t : List ℕ). decimal n t) (put-front line end after (omega arith) high);
+      kept = kept-both (kept-set line (end - 1) after (end - 1) (omega arith)) (x .kept) (x .high);
       low = omega (arith, x .low);
-      high = omega (arith, e, x .high);
+      high = omega (arith, x .high);
       sized = x .sized ∙ e;
     }
 

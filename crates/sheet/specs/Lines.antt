@@ -2,14 +2,19 @@
 use mathlib.Core.Path.{_≡_}
 use mathlib.Core.List.{List}
 use Prim.Native.Nat.{ℕ, _≤_}
-use lib.ListN.{length, drop, getD}
+use lib.ListN.{length, take, drop, getD}
 use Rattle.hume.specs.Call.{Figures}
 
--- the text from r on, at or after the place `least`, in a line of that size
-pub record Text (size : ℕ) (line : List ℕ) (r : ℕ) (text : List ℕ) (least : ℕ) : Type 0 where
+-- in front of the place r the line is as it was before
+pub record Kept (before line : List ℕ) (r : ℕ) : Type 0 where
+  pub front : take r line ≡ take r before
+
+-- the text from r on, a place from `least` to `most`, in a line of that size
+pub record Text (size : ℕ) (before line : List ℕ) (r : ℕ) (text : List ℕ) (least most : ℕ) : Type 0 where
   pub is : drop r line ≡ text
+  pub kept : Kept before line r
   pub low : least ≤ r
-  pub high : r ≤ size
+  pub high : r ≤ most
   pub sized : length line ≡ size
 
 -- "Figures: ending, detail, pc, steps charged, time, peak depth (0 at the start), depth, heap."

@@ -109,7 +109,7 @@ fn run_sheet(image: &[u8], sheet: &[u8], figures: &mut [u32; 8]) -> u32
 // 9 and what comes after it, for an accepted image.
 fn print_sheet(image: &[u8], sheet: &[u8], line: &mut [u8; 88]) -> usize
     requires { ⌜ imageRefusal (now image) ≡ 0 ⌝ }
-    ensures { λ r. ⌜ Text 88 (now (line .exit)) r (printedBy (partsRefusal (now (image .entry)) (now (sheet .entry))) (now (image .entry)) (now (sheet .entry))) 0 ⌝ }
+    ensures { λ r. ⌜ Text 88 (now (line .entry)) (now (line .exit)) r (printedBy (partsRefusal (now (image .entry)) (now (sheet .entry))) (now (image .entry)) (now (sheet .entry))) 0 88 ⌝ }
 {
     if !sheet_ok(image, sheet) {
         return refused_line(line, 9);
@@ -123,7 +123,7 @@ fn print_sheet(image: &[u8], sheet: &[u8], line: &mut [u8; 88]) -> usize
 }
 
 fn print_parts(image: &[u8], sheet: &[u8], line: &mut [u8; 88]) -> usize
-    ensures { λ r. ⌜ Text 88 (now (line .exit)) r (printedBy (partsRefusal (now (image .entry)) (now (sheet .entry))) (now (image .entry)) (now (sheet .entry))) 0 ⌝ }
+    ensures { λ r. ⌜ Text 88 (now (line .entry)) (now (line .exit)) r (printedBy (partsRefusal (now (image .entry)) (now (sheet .entry))) (now (image .entry)) (now (sheet .entry))) 0 88 ⌝ }
 {
     let n = number_of(image_verdict(image));
     if n != 0 {
@@ -134,7 +134,7 @@ fn print_parts(image: &[u8], sheet: &[u8], line: &mut [u8; 88]) -> usize
 
 // What the program prints for its input: it stands in the line from the returned place to the end.
 pub fn print(input: &[u8], line: &mut [u8; 88]) -> usize
-    ensures { λ r. ⌜ Text 88 (now (line .exit)) r (printed (now (input .entry))) 0 ⌝ }
+    ensures { λ r. ⌜ Text 88 (now (line .entry)) (now (line .exit)) r (printed (now (input .entry))) 0 88 ⌝ }
 {
     if input.len() < 4 {
         return refused_line(line, 1);

@@ -9,7 +9,7 @@ ghost use Rattle.sheet.specs.Lines.{Text, figuresIn};
 // The digits of n, before what stands at `end`. A figure is below 2^32, so it has at most 10 digits.
 fn put_decimal(line: &mut [u8], end: usize, n: u32) -> usize
     requires { ⌜ (10 ≤ end) × (end ≤ length (now line)) ⌝ }
-    ensures { λ r. ⌜ Text (length (now (line .entry))) (now (line .exit)) r (decimal n (drop end (now (line .entry)))) (end - 10) ⌝ }
+    ensures { λ r. ⌜ Text (length (now (line .entry))) (now (line .entry)) (now (line .exit)) r (decimal n (drop end (now (line .entry)))) (end - 10) end ⌝ }
 {
     let mut at = end;
     let mut rest = n;
@@ -29,7 +29,7 @@ fn put_decimal(line: &mut [u8], end: usize, n: u32) -> usize
 // A figure and the byte after it, before what stands at `end`.
 fn put_figure(line: &mut [u8], end: usize, n: u32, after: u8) -> usize
     requires { ⌜ (11 ≤ end) × (end ≤ length (now line)) ⌝ }
-    ensures { λ r. ⌜ Text (length (now (line .entry))) (now (line .exit)) r (decimal n (after ∷ drop end (now (line .entry)))) (end - 11) ⌝ }
+    ensures { λ r. ⌜ Text (length (now (line .entry))) (now (line .entry)) (now (line .exit)) r (decimal n (after ∷ drop end (now (line .entry)))) (end - 11) end ⌝ }
 {
     line[end - 1] = after;
     put_decimal(line, end - 1, n)
@@ -38,7 +38,7 @@ fn put_figure(line: &mut [u8], end: usize, n: u32, after: u8) -> usize
 // A text, before what stands at `end`.
 fn put_text(line: &mut [u8], end: usize, text: &[u8]) -> usize
     requires { ⌜ (length (now text) ≤ end) × (end ≤ length (now line)) ⌝ }
-    ensures { λ r. ⌜ Text (length (now (line .entry))) (now (line .exit)) r (now (text .entry) ++ drop end (now (line .entry))) 0 ⌝ }
+    ensures { λ r. ⌜ Text (length (now (line .entry))) (now (line .entry)) (now (line .exit)) r (now (text .entry) ++ drop end (now (line .entry))) 0 end ⌝ }
 {
     let mut at = end;
     let mut left = text.len();
@@ -51,7 +51,7 @@ fn put_text(line: &mut [u8], end: usize, text: &[u8]) -> usize
 }
 
 pub(crate) fn figures_line(line: &mut [u8; 88], figures: &[u32; 8]) -> usize
-    ensures { λ r. ⌜ Text 88 (now (line .exit)) r (figuresLine (figuresIn (now (figures .entry)))) 0 ⌝ }
+    ensures { λ r. ⌜ Text 88 (now (line .entry)) (now (line .exit)) r (figuresLine (figuresIn (now (figures .entry)))) 0 88 ⌝ }
 {
     let heap = put_figure(line, 88, figures[7], b'\n');
     let depth = put_figure(line, heap, figures[6], b' ');
@@ -64,7 +64,7 @@ pub(crate) fn figures_line(line: &mut [u8; 88], figures: &[u32; 8]) -> usize
 }
 
 pub(crate) fn refused_line(line: &mut [u8; 88], n: u32) -> usize
-    ensures { λ r. ⌜ Text 88 (now (line .exit)) r (refusedLine n) 0 ⌝ }
+    ensures { λ r. ⌜ Text 88 (now (line .entry)) (now (line .exit)) r (refusedLine n) 0 88 ⌝ }
 {
     let number = put_figure(line, 88, n, b'\n');
     put_text(line, number, b"refused ")

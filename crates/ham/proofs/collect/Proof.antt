@@ -10,10 +10,6 @@ use Rattle.sheet.specs.Needed as spec
 use Rattle.ham.proofs.Reading.{not-whole, not-cut, room, still, all-asked}
 use Rattle.ham.proofs.collect.Statement.{statement}
 use Rattle.ham.proofs.collect.Tie as tie
-use Rattle.ham.proofs.collect.Reads as reads
-use Rattle.ham.proofs.collect.Lts as lts
-use Rattle.ham.proofs.fill.Reads as fill-reads
-use Rattle.sheet.proofs.needed.Reads as needed-reads
 
 abbrev Inv-loop : tie.InvT-loop
 Inv-loop input₀ done₀ upto₀ input done upto =
@@ -26,41 +22,32 @@ Inv-loop input₀ done₀ upto₀ input done upto =
 abbrev μ-loop : tie.MeasureT-loop
 μ-loop input₀ done₀ upto₀ input done upto = length input - done
 
--- src/main.rt:53:34
 slice-reshare-prefix-needed : tie.Need-slice-reshare-prefix-needed Inv-loop μ-loop
 slice-reshare-prefix-needed c = search needs
 
--- src/main.rt:53:34
 slice-aggregate-needed : tie.Need-slice-aggregate-needed Inv-loop μ-loop
 slice-aggregate-needed c = search needs
 
--- src/main.rt:53:9
 needed-requires : tie.Need-needed-requires Inv-loop μ-loop
 needed-requires c κs = tt
 
--- src/main.rt:54:5
 loop-holds : tie.Need-loop-holds Inv-loop μ-loop
 loop-holds c =
     let needed = c .needed in
     (omega arith, refl, needed .ensures .is, needed .ensures .small, below-none _)
 
--- src/main.rt:55:24
 sub-fill : tie.Need-sub-fill Inv-loop μ-loop
 sub-fill c = search needs
 
--- src/main.rt:55:24
 part-fill-start : tie.Need-part-fill-start Inv-loop μ-loop
 part-fill-start c = search needs
 
--- src/main.rt:55:24
 part-fill-end : tie.Need-part-fill-end Inv-loop μ-loop
 part-fill-end c = search needs
 
--- src/main.rt:55:13
 fill-requires : tie.Need-fill-requires Inv-loop μ-loop
 fill-requires c κs = tt
 
--- src/main.rt:56:9
 add-done : tie.Need-add-done Inv-loop μ-loop
 add-done c =
     let start = c .before .before .before .before .before .before .before .before .before .before in
@@ -71,14 +58,12 @@ add-done c =
     let lent = c .before .before .before .before .fill-arg .given in
     omega (arith, room (start .pre) (loop .inv .1) (loop .inv .3) (loop-test .taken) (lent .2) (input .given .0) (input .given .1) (fill .ensures .within) .most, loop .inv .3)
 
--- src/main.rt:58:13
 same-length : tie.Need-same-length Inv-loop μ-loop
 same-length c =
     let input = c .before .before .before .before .input in
     let loop = c .before .before .before .before .before .before .before .before .loop in
     input .given .1 ∙ loop .inv .1
 
--- src/main.rt:58:13
 returns : tie.Need-returns Inv-loop μ-loop
 returns c =
     let start = c .before .before .before .before .before .before .before .before .before .before .before .before in
@@ -99,7 +84,6 @@ returns c =
           λ e. let u : loop .done + fill .result .count < loop .upto = omega (arith, lent .2, input .given .0, r .some, fill .ensures .short (not-true _ (if1 .taken))) in omega (arith, a u, u);
     }
 
--- src/main.rt:64:30
 slice-reshare-prefix-needed-2 : tie.Need-slice-reshare-prefix-needed-2 Inv-loop μ-loop
 slice-reshare-prefix-needed-2 c =
     let start = c .before .before .before .before .before .before .before .before .before .before .before .before in
@@ -110,7 +94,6 @@ slice-reshare-prefix-needed-2 c =
     let lent = c .before .before .before .before .before .before .fill-arg .given in
     room (start .pre) (loop .inv .1) (loop .inv .3) (loop-test .taken) (lent .2) (input .given .0) (input .given .1) (fill .ensures .within) .new
 
--- src/main.rt:64:30
 slice-aggregate-needed-2 : tie.Need-slice-aggregate-needed-2 Inv-loop μ-loop
 slice-aggregate-needed-2 c =
     let start = c .before .before .before .before .before .before .before .before .before .before .before .before .before in
@@ -121,11 +104,9 @@ slice-aggregate-needed-2 c =
     let lent = c .before .before .before .before .before .before .before .fill-arg .given in
     sym (length-take-le _ _ (room (start .pre) (loop .inv .1) (loop .inv .3) (loop-test .taken) (lent .2) (input .given .0) (input .given .1) (fill .ensures .within) .new))
 
--- src/main.rt:64:9
 needed-requires-2 : tie.Need-needed-requires-2 Inv-loop μ-loop
 needed-requires-2 c κs = tt
 
--- src/main.rt:54:5
 loop-less : tie.Need-loop-less Inv-loop μ-loop
 loop-less c =
     let fill = c .before .before .before .before .before .before .before .fill in
@@ -139,7 +120,6 @@ loop-less c =
     let r = room (start .pre) (loop .inv .1) (loop .inv .3) (loop-test .taken) (lent .2) (input .given .0) (input .given .1) (fill .ensures .within) in
     omega (arith, lent .2, input .given .0, input .given .1, all, r .new, r .some)
 
--- src/main.rt:54:5
 loop-again : tie.Need-loop-again Inv-loop μ-loop
 loop-again c =
     let start = c .before .before .before .before .before .before .before .before .before .before .before .before .before .before in
@@ -157,13 +137,11 @@ loop-again c =
       all-asked (loop .input) (fill .last .0) (loop .done) (loop .upto - loop .done) (loop .inv .0) (loop .upto) (loop .inv .2) (loop .inv .4) (fill .result .count) (fill .ensures .within) (r .most),
     )
 
--- src/main.rt:48:1
 same-length-2 : tie.Need-same-length-2 Inv-loop μ-loop
 same-length-2 c =
     let loop = c .before .loop in
     loop .inv .1
 
--- src/main.rt:48:1
 returns-2 : tie.Need-returns-2 Inv-loop μ-loop
 returns-2 c =
     let loop = c .before .loop in

@@ -2,62 +2,46 @@ use native.Mathlib.Omega.{arith}
 use borrow.Author.Needs.{needs}
 use Rattle.ham.proofs.main.Statement.{statement}
 use Rattle.ham.proofs.main.Tie as tie
-use Rattle.ham.proofs.main.Reads as reads
-use Rattle.ham.proofs.main.Lts as lts
-use Rattle.ham.proofs.respond.Reads as respond-reads
-use Rattle.io.proofs.write_all.Reads as write-all-reads
 
--- src/main.rt:90:21
 slice-aggregate-respond : tie.Need-slice-aggregate-respond
 slice-aggregate-respond c = search needs
 
--- src/main.rt:90:9
 respond-requires : tie.Need-respond-requires
 respond-requires c κs = search needs
 
--- src/main.rt:92:48
 sub-write-all : tie.Need-sub-write-all
 sub-write-all c =
     let respond = c .before .respond in
     respond .ensures .text .high
 
--- src/main.rt:92:48
 part-write-all-start : tie.Need-part-write-all-start
 part-write-all-start c =
     let respond = c .before .before .respond in
     respond .ensures .text .high
 
--- src/main.rt:92:48
 part-write-all-end : tie.Need-part-write-all-end
 part-write-all-end c =
     let respond = c .before .before .respond in
     omega (arith, respond .ensures .text .sized)
 
--- src/main.rt:92:9
 write-all-requires : tie.Need-write-all-requires
 write-all-requires c κs = search needs
 
--- src/main.rt:94:38
 slice-aggregate-write-all : tie.Need-slice-aggregate-write-all
 slice-aggregate-write-all c = search needs
 
--- src/main.rt:94:9
 write-all-requires-2 : tie.Need-write-all-requires-2
 write-all-requires-2 c κs = search needs
 
--- src/main.rt:97:38
 slice-aggregate-write-all-2 : tie.Need-slice-aggregate-write-all-2
 slice-aggregate-write-all-2 c = search needs
 
--- src/main.rt:97:9
 write-all-requires-3 : tie.Need-write-all-requires-3
 write-all-requires-3 c κs = search needs
 
--- src/main.rt:87:1
 returns : tie.Need-returns
 returns c = search needs
 
--- src/main.rt:87:1
 returns-2 : tie.Need-returns-2
 returns-2 c = search needs
 

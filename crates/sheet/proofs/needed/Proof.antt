@@ -5,22 +5,15 @@ use Rattle.sheet.proofs.Needing.{rest-is, opening-needed, huge-needed, 
 use borrow.Author.Needs.{needs}
 use Rattle.sheet.proofs.needed.Statement.{statement}
 use Rattle.sheet.proofs.needed.Tie as tie
-use Rattle.sheet.proofs.needed.Reads as reads
-use Rattle.sheet.proofs.needed.Lts as lts
-use Rattle.gate.proofs.image.full_at.Reads as full-at-reads
-use Rattle.sheet.proofs.sheet_needed.Reads as sheet-needed-reads
 
--- src/lib.rt:65:9
 returns : tie.Need-returns
 returns c =
     let if1 = c .if1 in
     record { is = opening-needed _ (if1 .taken); small = omega arith }
 
--- src/lib.rt:67:9
 full-at-requires : tie.Need-full-at-requires
 full-at-requires c κs = search needs
 
--- src/lib.rt:69:9
 returns-2 : tie.Need-returns-2
 returns-2 c =
     let full-at = c .before .full-at in
@@ -29,7 +22,6 @@ returns-2 c =
     let e = full-at .ensures .is in
     record { is = huge-needed _ (if1 .left) (omega (arith, e, if2 .taken)); small = omega arith }
 
--- src/lib.rt:72:9
 returns-3 : tie.Need-returns-3
 returns-3 c =
     let full-at = c .before .before .full-at in
@@ -42,33 +34,26 @@ returns-3 c =
       small = omega (arith, if2 .left);
     }
 
--- src/lib.rt:74:22
 slice-aggregate-sheet-needed : tie.Need-slice-aggregate-sheet-needed
 slice-aggregate-sheet-needed c =
     let if3 = c .before .if3 in
     sym (length-take-le _ _ (if3 .left))
 
--- src/lib.rt:74:35
 sub-sheet-needed : tie.Need-sub-sheet-needed
 sub-sheet-needed c = search needs
 
--- src/lib.rt:74:35
 part-sheet-needed-start : tie.Need-part-sheet-needed-start
 part-sheet-needed-start c = search needs
 
--- src/lib.rt:74:35
 part-sheet-needed-end : tie.Need-part-sheet-needed-end
 part-sheet-needed-end c = search needs
 
--- src/lib.rt:74:9
 sheet-needed-requires : tie.Need-sheet-needed-requires
 sheet-needed-requires c κs = search needs
 
--- src/lib.rt:74:5
 add-result : tie.Need-add-result
 add-result c = search needs
 
--- src/lib.rt:61:1
 returns-4 : tie.Need-returns-4
 returns-4 c =
     let full-at = c .before .before .before .before .before .full-at in

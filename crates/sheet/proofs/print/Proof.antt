@@ -7,32 +7,22 @@ use Rattle.sheet.proofs.Deciding.{no-length, too-long, cut-short, read-
 use borrow.Author.Needs.{needs}
 use Rattle.sheet.proofs.print.Statement.{statement}
 use Rattle.sheet.proofs.print.Tie as tie
-use Rattle.sheet.proofs.print.Reads as reads
-use Rattle.sheet.proofs.print.Lts as lts
-use Rattle.gate.proofs.image.full_at.Reads as full-at-reads
-use Rattle.sheet.proofs.line.refused_line.Reads as refused-line-reads
-use Rattle.sheet.proofs.print_parts.Reads as print-parts-reads
 
--- src/lib.rt:140:9
 refused-line-requires : tie.Need-refused-line-requires
 refused-line-requires c κs = search needs
 
--- src/lib.rt:140:9
 returns : tie.Need-returns
 returns c =
     let refused-line = c .refused-line in
     let if1 = c .before .before .if1 in
     retold (refused-line .ensures) (no-length _ (if1 .taken))
 
--- src/lib.rt:142:9
 full-at-requires : tie.Need-full-at-requires
 full-at-requires c κs = search needs
 
--- src/lib.rt:144:9
 refused-line-requires-2 : tie.Need-refused-line-requires-2
 refused-line-requires-2 c κs = search needs
 
--- src/lib.rt:144:9
 returns-2 : tie.Need-returns-2
 returns-2 c =
     let full-at = c .before .before .before .full-at in
@@ -42,11 +32,9 @@ returns-2 c =
     let e = full-at .ensures .is in
     retold (refused-line2 .ensures) (too-long _ (if1 .left) (omega (arith, e, if2 .taken)))
 
--- src/lib.rt:147:9
 refused-line-requires-3 : tie.Need-refused-line-requires-3
 refused-line-requires-3 c κs = search needs
 
--- src/lib.rt:147:9
 returns-3 : tie.Need-returns-3
 returns-3 c =
     let full-at = c .before .before .before .before .full-at in
@@ -57,29 +45,23 @@ returns-3 c =
     let e = full-at .ensures .is in
     retold (refused-line3 .ensures) (cut-short _ (if1 .left) (omega (arith, e, if2 .left)) (omega (arith, e, if3 .taken)))
 
--- src/lib.rt:149:17
 slice-aggregate-print-parts : tie.Need-slice-aggregate-print-parts
 slice-aggregate-print-parts c =
     let if3 = c .before .if3 in
     sym (length-take-le _ _ (if3 .left))
 
--- src/lib.rt:149:30
 sub-print-parts : tie.Need-sub-print-parts
 sub-print-parts c = search needs
 
--- src/lib.rt:149:30
 part-print-parts-start : tie.Need-part-print-parts-start
 part-print-parts-start c = search needs
 
--- src/lib.rt:149:30
 part-print-parts-end : tie.Need-part-print-parts-end
 part-print-parts-end c = search needs
 
--- src/lib.rt:149:5
 print-parts-requires : tie.Need-print-parts-requires
 print-parts-requires c κs = search needs
 
--- src/lib.rt:136:1
 returns-4 : tie.Need-returns-4
 returns-4 c =
     let print-parts = c .print-parts in

@@ -4,26 +4,16 @@ use Rattle.sheet.proofs.Deciding.{image-refused}
 use borrow.Author.Needs.{needs}
 use Rattle.sheet.proofs.print_parts.Statement.{statement}
 use Rattle.sheet.proofs.print_parts.Tie as tie
-use Rattle.sheet.proofs.print_parts.Reads as reads
-use Rattle.sheet.proofs.print_parts.Lts as lts
-use Rattle.gate.proofs.image_verdict.Reads as image-verdict-reads
-use Rattle.host.proofs.number_of.Reads as number-of-reads
-use Rattle.sheet.proofs.line.refused_line.Reads as refused-line-reads
-use Rattle.sheet.proofs.print_sheet.Reads as print-sheet-reads
 
--- src/lib.rt:128:23
 image-verdict-requires : tie.Need-image-verdict-requires
 image-verdict-requires c κs = search needs
 
--- src/lib.rt:128:9
 number-of-requires : tie.Need-number-of-requires
 number-of-requires c κs = search needs
 
--- src/lib.rt:130:9
 refused-line-requires : tie.Need-refused-line-requires
 refused-line-requires c κs = search needs
 
--- src/lib.rt:130:9
 returns : tie.Need-returns
 returns c =
     let refused-line = c .refused-line in
@@ -32,11 +22,9 @@ returns c =
     let if1 = c .before .before .if1 in
     retold (refused-line .ensures) (image-refused _ _ _ (number-of .ensures ∙ image-verdict .ensures) (if1 .taken))
 
--- src/lib.rt:132:5
 print-sheet-requires : tie.Need-print-sheet-requires
 print-sheet-requires c κs = search needs
 
--- src/lib.rt:125:1
 returns-2 : tie.Need-returns-2
 returns-2 c = search needs
 

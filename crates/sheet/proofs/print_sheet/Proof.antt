@@ -5,22 +5,13 @@ use Rattle.sheet.proofs.Deciding.{sheet-refused, call-refused, call-fig
 use borrow.Author.Needs.{needs}
 use Rattle.sheet.proofs.print_sheet.Statement.{statement}
 use Rattle.sheet.proofs.print_sheet.Tie as tie
-use Rattle.sheet.proofs.print_sheet.Reads as reads
-use Rattle.sheet.proofs.print_sheet.Lts as lts
-use Rattle.sheet.proofs.line.figures_line.Reads as figures-line-reads
-use Rattle.sheet.proofs.line.refused_line.Reads as refused-line-reads
-use Rattle.sheet.proofs.run_sheet.Reads as run-sheet-reads
-use Rattle.sheet.proofs.sheet_ok.Reads as sheet-ok-reads
 
--- src/lib.rt:114:9
 sheet-ok-requires : tie.Need-sheet-ok-requires
 sheet-ok-requires c κs = search needs
 
--- src/lib.rt:115:9
 refused-line-requires : tie.Need-refused-line-requires
 refused-line-requires c κs = search needs
 
--- src/lib.rt:115:9
 returns : tie.Need-returns
 returns c =
     let refused-line = c .refused-line in
@@ -29,15 +20,12 @@ returns c =
     let if1 = c .before .before .if1 in
     retold (refused-line .ensures) (sheet-refused _ _ (start .pre) (sym (sheet-ok .ensures) ∙ not-true _ (if1 .taken)))
 
--- src/lib.rt:118:9
 run-sheet-requires : tie.Need-run-sheet-requires
 run-sheet-requires c κs = search needs
 
--- src/lib.rt:120:9
 refused-line-requires-2 : tie.Need-refused-line-requires-2
 refused-line-requires-2 c κs = search needs
 
--- src/lib.rt:120:9
 returns-2 : tie.Need-returns-2
 returns-2 c =
     let sheet-ok = c .before .before .before .before .before .before .sheet-ok in
@@ -49,11 +37,9 @@ returns-2 c =
     let ok = sym (sheet-ok .ensures) ∙ not-false _ (if1 .left) in
     retold (refused-line2 .ensures) (call-refused _ _ (start .pre) ok _ (run-sheet .ensures .0) (if2 .taken))
 
--- src/lib.rt:122:5
 figures-line-requires : tie.Need-figures-line-requires
 figures-line-requires c κs = search needs
 
--- src/lib.rt:110:1
 returns-3 : tie.Need-returns-3
 returns-3 c =
     let sheet-ok = c .before .before .before .before .before .before .before .sheet-ok in

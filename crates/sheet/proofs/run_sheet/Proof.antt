@@ -6,47 +6,31 @@ use Rattle.sheet.proofs.Giving.{inputs-most, wires-within, sheet-given,
 use borrow.Author.Needs.{needs}
 use Rattle.sheet.proofs.run_sheet.Statement.{statement}
 use Rattle.sheet.proofs.run_sheet.Tie as tie
-use Rattle.sheet.proofs.run_sheet.Reads as reads
-use Rattle.sheet.proofs.run_sheet.Lts as lts
-use Rattle.gate.proofs.image.byte_at.Reads as byte-at-reads
-use Rattle.host.proofs.ham_run.Reads as ham-run-reads
-use Rattle.sheet.proofs.decode.first_order.Reads as first-order-reads
-use Rattle.sheet.proofs.decode.word.Reads as word-reads
-use Rattle.sheet.proofs.decode.words.Reads as words-reads
 
--- src/lib.rt:90:23
 byte-at-requires : tie.Need-byte-at-requires
 byte-at-requires c κs = search needs
 
--- src/lib.rt:90:18
 mul-inputs : tie.Need-mul-inputs
 mul-inputs c = search needs
 
--- src/lib.rt:91:30
 byte-at-requires-2 : tie.Need-byte-at-requires-2
 byte-at-requires-2 c κs = search needs
 
--- src/lib.rt:91:25
 mul-both : tie.Need-mul-both
 mul-both c = search needs
 
--- src/lib.rt:91:16
 add-both : tie.Need-add-both
 add-both c = search needs
 
--- src/lib.rt:92:25
 slice-aggregate-words : tie.Need-slice-aggregate-words
 slice-aggregate-words c = search needs
 
--- src/lib.rt:92:5
 words-requires : tie.Need-words-requires
 words-requires c κs = search needs
 
--- src/lib.rt:93:30
 slice-aggregate-words-2 : tie.Need-slice-aggregate-words-2
 slice-aggregate-words-2 c = search needs
 
--- src/lib.rt:93:5
 words-requires-2 : tie.Need-words-requires-2
 words-requires-2 c κs =
     let start = c .before .before .before .before .before .before .before .before in
@@ -54,39 +38,30 @@ words-requires-2 c κs =
     let i = inputs-most _ [] (start .pre) in
     (omega (arith, i, byte-at .ensures .is), omega (arith, i, byte-at .ensures .is))
 
--- src/lib.rt:94:36
 slice-aggregate-first-order : tie.Need-slice-aggregate-first-order
 slice-aggregate-first-order c = search needs
 
--- src/lib.rt:94:9
 first-order-requires : tie.Need-first-order-requires
 first-order-requires c κs = search needs
 
--- src/lib.rt:97:9
 slice-aggregate-ham-run : tie.Need-slice-aggregate-ham-run
 slice-aggregate-ham-run c = search needs
 
--- src/lib.rt:98:9
 word-requires : tie.Need-word-requires
 word-requires c κs = search needs
 
--- src/lib.rt:99:9
 word-requires-2 : tie.Need-word-requires-2
 word-requires-2 c κs = search needs
 
--- src/lib.rt:100:9
 word-requires-3 : tie.Need-word-requires-3
 word-requires-3 c κs = search needs
 
--- src/lib.rt:101:9
 slice-aggregate-ham-run-2 : tie.Need-slice-aggregate-ham-run-2
 slice-aggregate-ham-run-2 c = search needs
 
--- src/lib.rt:102:9
 slice-aggregate-ham-run-3 : tie.Need-slice-aggregate-ham-run-3
 slice-aggregate-ham-run-3 c = search needs
 
--- src/lib.rt:103:9
 array-borrow-prefix-wires : tie.Need-array-borrow-prefix-wires
 array-borrow-prefix-wires c =
     let wires2 = c .before .before .before .before .before .before .before .before .before .wires2 in
@@ -95,7 +70,6 @@ array-borrow-prefix-wires c =
     let byte-at2 = c .before .before .before .before .before .before .before .before .before .before .before .before .before .before .before .byte-at2 in
     omega (arith, wires2 .given, wires-within _ [] (start .pre) _ _ (byte-at .ensures .is) (byte-at2 .ensures .is))
 
--- src/lib.rt:103:9
 slice-aggregate-ham-run-4 : tie.Need-slice-aggregate-ham-run-4
 slice-aggregate-ham-run-4 c =
     let wires2 = c .before .before .before .before .before .before .before .before .before .before .wires2 in
@@ -104,22 +78,18 @@ slice-aggregate-ham-run-4 c =
     let byte-at2 = c .before .before .before .before .before .before .before .before .before .before .before .before .before .before .before .before .byte-at2 in
     sym (length-take-le _ _ (omega (arith, wires2 .given, wires-within _ [] (start .pre) _ _ (byte-at .ensures .is) (byte-at2 .ensures .is))))
 
--- src/lib.rt:104:9
 array-borrow-prefix-order : tie.Need-array-borrow-prefix-order
 array-borrow-prefix-order c = search needs
 
--- src/lib.rt:104:9
 slice-aggregate-ham-run-5 : tie.Need-slice-aggregate-ham-run-5
 slice-aggregate-ham-run-5 c =
     let first-order = c .before .before .before .before .before .before .before .before .before .first-order in
     let order2 = c .before .before .before .before .before .before .before .before .order2 in
     sym (length-take-le _ _ (omega (arith, first-order .ensures .0, order2 .given)))
 
--- src/lib.rt:95:5
 ham-run-requires : tie.Need-ham-run-requires
 ham-run-requires c κs = search needs
 
--- src/lib.rt:80:1
 returns : tie.Need-returns
 returns c =
     let start = c .before .before .before .before .before .before .before .before .before .before .before .before .before .before .before .before .before .before .before .before .before .before .before .before .before .before .before in

@@ -4,27 +4,19 @@ use Rattle.hume.specs.Sheet.{sheetLength}
 use borrow.Author.Needs.{needs}
 use Rattle.sheet.proofs.sheet_length.Statement.{statement}
 use Rattle.sheet.proofs.sheet_length.Tie as tie
-use Rattle.sheet.proofs.sheet_length.Reads as reads
-use Rattle.sheet.proofs.sheet_length.Lts as lts
-use Rattle.gate.proofs.image.byte_at.Reads as byte-at-reads
 
--- src/lib.rt:31:20
 byte-at-requires : tie.Need-byte-at-requires
 byte-at-requires c κs = search needs
 
--- src/lib.rt:31:15
 mul-result : tie.Need-mul-result
 mul-result c = search needs
 
--- src/lib.rt:31:10
 add-result : tie.Need-add-result
 add-result c = search needs
 
--- src/lib.rt:31:5
 mul-result-2 : tie.Need-mul-result-2
 mul-result-2 c = search needs
 
--- src/lib.rt:28:1
 returns : tie.Need-returns
 unfolding sheetLength program
 returns c =

@@ -4,22 +4,13 @@ use Rattle.sheet.proofs.Needing.{none-needed, word-needed, wrong-found,
 use borrow.Author.Needs.{needs}
 use Rattle.sheet.proofs.sheet_needed.Statement.{statement}
 use Rattle.sheet.proofs.sheet_needed.Tie as tie
-use Rattle.sheet.proofs.sheet_needed.Reads as reads
-use Rattle.sheet.proofs.sheet_needed.Lts as lts
-use Rattle.gate.proofs.image.full_at.Reads as full-at-reads
-use Rattle.gate.proofs.image_verdict.Reads as image-verdict-reads
-use Rattle.host.proofs.number_of.Reads as number-of-reads
-use Rattle.sheet.proofs.sheet_length.Reads as sheet-length-reads
 
--- src/lib.rt:47:18
 image-verdict-requires : tie.Need-image-verdict-requires
 image-verdict-requires c κs = search needs
 
--- src/lib.rt:47:8
 number-of-requires : tie.Need-number-of-requires
 number-of-requires c κs = search needs
 
--- src/lib.rt:48:9
 returns : tie.Need-returns
 returns c =
     let number-of = c .before .number-of in
@@ -28,7 +19,6 @@ returns c =
     let n = number-of .ensures ∙ image-verdict .ensures in
     record { is = none-needed _ _ (λ q. if1 .taken (n ∙ q)); small = omega arith }
 
--- src/lib.rt:51:9
 returns-2 : tie.Need-returns-2
 returns-2 c =
     let number-of = c .before .before .number-of in
@@ -38,15 +28,12 @@ returns-2 c =
     let n = number-of .ensures ∙ image-verdict .ensures in
     record { is = word-needed _ _ (sym n ∙ if1 .left) (if2 .taken); small = omega arith }
 
--- src/lib.rt:53:9
 sheet-length-requires : tie.Need-sheet-length-requires
 sheet-length-requires c κs = search needs
 
--- src/lib.rt:54:8
 full-at-requires : tie.Need-full-at-requires
 full-at-requires c κs = search needs
 
--- src/lib.rt:55:9
 returns-3 : tie.Need-returns-3
 returns-3 c =
     let number-of = c .before .before .before .before .before .number-of in
@@ -59,7 +46,6 @@ returns-3 c =
     let n = number-of .ensures ∙ image-verdict .ensures in
     wrong-found _ _ (sym n ∙ if1 .left) (if2 .left) _ _ (sheet-length .ensures .is) (full-at .ensures .is) (if3 .taken)
 
--- src/lib.rt:44:1
 returns-4 : tie.Need-returns-4
 returns-4 c =
     let number-of = c .before .before .before .before .before .number-of in

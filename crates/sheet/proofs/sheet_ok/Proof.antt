@@ -2,24 +2,16 @@ use Rattle.sheet.proofs.Needing.{ok-short, ok-length, ok-version}
 use borrow.Author.Needs.{needs}
 use Rattle.sheet.proofs.sheet_ok.Statement.{statement}
 use Rattle.sheet.proofs.sheet_ok.Tie as tie
-use Rattle.sheet.proofs.sheet_ok.Reads as reads
-use Rattle.sheet.proofs.sheet_ok.Lts as lts
-use Rattle.gate.proofs.image.full_at.Reads as full-at-reads
-use Rattle.sheet.proofs.sheet_length.Reads as sheet-length-reads
 
--- src/lib.rt:38:9
 sheet-length-requires : tie.Need-sheet-length-requires
 sheet-length-requires c κs = search needs
 
--- src/lib.rt:39:29
 full-at-requires : tie.Need-full-at-requires
 full-at-requires c κs = search needs
 
--- src/lib.rt:39:58
 full-at-requires-2 : tie.Need-full-at-requires-2
 full-at-requires-2 c κs = search needs
 
--- src/lib.rt:35:1
 returns : tie.Need-returns
 returns c =
     let sheet-length = c .before .before .before .before .sheet-length in
@@ -29,7 +21,6 @@ returns c =
     let full-at2 = c .full-at2 in
     ok-version _ _ _ (sheet-length .ensures .is) (if1 .taken) _ (full-at .ensures .is) (if2 .taken) _ (full-at2 .ensures .is)
 
--- src/lib.rt:35:1
 returns-2 : tie.Need-returns-2
 returns-2 c =
     let sheet-length = c .before .before .before .sheet-length in
@@ -38,7 +29,6 @@ returns-2 c =
     let if2 = c .if2 in
     ok-length _ _ _ (sheet-length .ensures .is) (if1 .taken) _ (full-at .ensures .is) (if2 .left)
 
--- src/lib.rt:35:1
 returns-3 : tie.Need-returns-3
 returns-3 c =
     let sheet-length = c .before .sheet-length in

@@ -8,8 +8,6 @@ use Rattle.hume.specs.Sheet.{counting}
 use Rattle.sheet.proofs.Decoding.{counting-next}
 use Rattle.sheet.proofs.decode.count_up.Statement.{statement}
 use Rattle.sheet.proofs.decode.count_up.Tie as tie
-use Rattle.sheet.proofs.decode.count_up.Reads as reads
-use Rattle.sheet.proofs.decode.count_up.Lts as lts
 
 abbrev Inv-loop : tie.InvT-loop
 Inv-loop order₀ n i₀ order i = (i ≤ n) × (order ≡ counting 0 i ++ drop i order₀) × (length order ≡ length order₀)
@@ -17,37 +15,30 @@ Inv-loop order₀ n i₀ order i = (i ≤ n) × (order ≡ counting 0 i ++ drop 
 abbrev μ-loop : tie.MeasureT-loop
 μ-loop order₀ n i₀ order i = n - i
 
--- src/decode.rt:38:5
 loop-holds : tie.Need-loop-holds Inv-loop μ-loop
 unfolding counting
 loop-holds c = (omega arith, refl, refl)
 
--- src/decode.rt:39:20
 cast-order : tie.Need-cast-order Inv-loop μ-loop
 cast-order c =
     let start = c .before .before in
     omega (arith, start .pre .0)
 
--- src/decode.rt:39:9
 mul-order : tie.Need-mul-order Inv-loop μ-loop
 mul-order c = search needs
 
--- src/decode.rt:39:9
 slice-write-order : tie.Need-slice-write-order Inv-loop μ-loop
 slice-write-order c =
     let loop = c .before .loop in
     let start = c .before .before in
     omega (arith, loop .inv .2, start .pre .1)
 
--- src/decode.rt:40:9
 add-i : tie.Need-add-i Inv-loop μ-loop
 add-i c = search needs
 
--- src/decode.rt:38:5
 loop-less : tie.Need-loop-less Inv-loop μ-loop
 loop-less c = omega arith
 
--- src/decode.rt:38:5
 loop-again : tie.Need-loop-again Inv-loop μ-loop
 loop-again c =
     let loop = c .before .loop in
@@ -59,13 +50,11 @@ loop-again c =
       length-set (loop .order) (loop .i) (loop .i) ∙ i .2,
     )
 
--- src/decode.rt:33:1
 same-length : tie.Need-same-length Inv-loop μ-loop
 same-length c =
     let loop = c .before .loop in
     loop .inv .2
 
--- src/decode.rt:33:1
 returns : tie.Need-returns Inv-loop μ-loop
 returns c =
     let loop = c .before .loop in

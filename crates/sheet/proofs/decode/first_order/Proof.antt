@@ -1,19 +1,15 @@
-use mathlib.Core.Path.{_≡_, refl, sym, ap, _∙_}
+use mathlib.Core.Path.{_≡_, refl, ap, _∙_}
 use mathlib.Core.List.{List, _++_}
 use Prim.Native.Nat.{ℕ, _+_, _-_, _*_, _≤_}
 use native.Mathlib.Omega.{arith}
 use borrow.Author.Needs.{needs}
-use lib.ListN.{length, take, drop}
+use lib.ListN.{length, take}
 use Rattle.hume.specs.Image.{program, byte, rulesetAt}
 use Rattle.hume.specs.Sheet.{counting, firstOrder}
 use Rattle.gate.proofs.Rulesets.{ruleset-next, count-is}
 use Rattle.sheet.proofs.Decoding.{order-next, order-part, rulesets-most, rules-most}
 use Rattle.sheet.proofs.decode.first_order.Statement.{statement}
 use Rattle.sheet.proofs.decode.first_order.Tie as tie
-use Rattle.sheet.proofs.decode.first_order.Reads as reads
-use Rattle.sheet.proofs.decode.first_order.Lts as lts
-use Rattle.gate.proofs.image.byte_at.Reads as byte-at-reads
-use Rattle.sheet.proofs.decode.count_up.Reads as count-up-reads
 
 abbrev Inv-loop : tie.InvT-loop
 Inv-loop image order₀ rulesets at₀ done₀ r₀ order at done r =
@@ -27,16 +23,13 @@ Inv-loop image order₀ rulesets at₀ done₀ r₀ order at done r =
 abbrev μ-loop : tie.MeasureT-loop
 μ-loop image order₀ rulesets at₀ done₀ r₀ order at done r = rulesets - r
 
--- src/decode.rt:50:9
 byte-at-requires : tie.Need-byte-at-requires Inv-loop μ-loop
 byte-at-requires c κs = tt
 
--- src/decode.rt:54:5
 loop-holds : tie.Need-loop-holds Inv-loop μ-loop
 unfolding rulesetAt firstOrder
 loop-holds c = (omega arith, refl, omega arith, omega arith, refl, refl)
 
--- src/decode.rt:55:32
 add-byte-at : tie.Need-add-byte-at Inv-loop μ-loop
 add-byte-at c =
     let loop = c .before .loop in
@@ -44,15 +37,12 @@ add-byte-at c =
     let byte-at = c .before .before .byte-at in
     omega (arith, loop .inv .2, loop-test .taken, byte-at .ensures .small)
 
--- src/decode.rt:55:13
 byte-at-requires-2 : tie.Need-byte-at-requires-2 Inv-loop μ-loop
 byte-at-requires-2 c κs = tt
 
--- src/decode.rt:56:18
 mul-count-up : tie.Need-mul-count-up Inv-loop μ-loop
 mul-count-up c = search needs
 
--- src/decode.rt:56:18
 sub-count-up : tie.Need-sub-count-up Inv-loop μ-loop
 sub-count-up c =
     let loop = c .before .before .loop in
@@ -61,7 +51,6 @@ sub-count-up c =
     let start = c .before .before .before .before .before .before in
     omega (arith, loop .inv .3, loop .inv .5, loop-test .taken, byte-at .ensures .is, rulesets-most _ (start .pre .0), start .pre .1)
 
--- src/decode.rt:56:18
 part-count-up-start : tie.Need-part-count-up-start Inv-loop μ-loop
 part-count-up-start c =
     let loop = c .before .before .loop in
@@ -70,11 +59,9 @@ part-count-up-start c =
     let start = c .before .before .before .before .before .before in
     omega (arith, loop .inv .3, loop .inv .5, loop-test .taken, byte-at .ensures .is, rulesets-most _ (start .pre .0), start .pre .1)
 
--- src/decode.rt:56:18
 part-count-up-end : tie.Need-part-count-up-end Inv-loop μ-loop
 part-count-up-end c = search needs
 
--- src/decode.rt:56:9
 count-up-requires : tie.Need-count-up-requires Inv-loop μ-loop
 count-up-requires c κs =
     let loop = c .before .before .before .loop in
@@ -90,7 +77,6 @@ count-up-requires c κs =
       omega (arith, n, most, few, c .count-up-arg .given .2, i .3, i .5, loop-test .taken, byte-at .ensures .is, start .pre .1),
     )
 
--- src/decode.rt:57:9
 add-done : tie.Need-add-done Inv-loop μ-loop
 add-done c =
     let loop = c .before .before .before .before .before .before .loop in
@@ -99,19 +85,16 @@ add-done c =
     let byte-at2 = c .before .before .before .before .byte-at2 in
     omega (arith, loop .inv .3, loop-test .taken, byte-at .ensures .small, byte-at2 .ensures .small)
 
--- src/decode.rt:58:19
 mul-at : tie.Need-mul-at Inv-loop μ-loop
 mul-at c =
     let byte-at2 = c .before .before .before .before .byte-at2 in
     omega (arith, byte-at2 .ensures .small)
 
--- src/decode.rt:58:15
 add-at : tie.Need-add-at Inv-loop μ-loop
 add-at c =
     let byte-at2 = c .before .before .before .before .byte-at2 in
     omega (arith, byte-at2 .ensures .small)
 
--- src/decode.rt:58:9
 add-at-2 : tie.Need-add-at-2 Inv-loop μ-loop
 add-at-2 c =
     let loop = c .before .before .before .before .before .before .loop in
@@ -120,15 +103,12 @@ add-at-2 c =
     let byte-at2 = c .before .before .before .before .byte-at2 in
     omega (arith, loop .inv .2, loop-test .taken, byte-at .ensures .small, byte-at2 .ensures .small)
 
--- src/decode.rt:59:9
 add-r : tie.Need-add-r Inv-loop μ-loop
 add-r c = search needs
 
--- src/decode.rt:54:5
 loop-less : tie.Need-loop-less Inv-loop μ-loop
 loop-less c = omega arith
 
--- src/decode.rt:54:5
 loop-again : tie.Need-loop-again Inv-loop μ-loop
 loop-again c =
     let loop = c .before .before .before .before .before .before .loop in
@@ -153,13 +133,11 @@ loop-again c =
       order .given .1 ∙ i .5,
     )
 
--- src/decode.rt:45:1
 same-length : tie.Need-same-length Inv-loop μ-loop
 same-length c =
     let loop = c .before .loop in
     loop .inv .5
 
--- src/decode.rt:45:1
 returns : tie.Need-returns Inv-loop μ-loop
 unfolding program
 returns c =

@@ -1,79 +1,68 @@
 use mathlib.Core.Path.{_∙_}
 use native.Mathlib.Omega.{arith}
 use Rattle.sheet.specs.Lines.{figuresIn}
-use Rattle.sheet.proofs.Lines.{line-end, eight-figures}
+use Rattle.sheet.proofs.Lines.{line-end, kept-both, eight-figures}
 use borrow.Author.Needs.{needs}
 use Rattle.sheet.proofs.line.figures_line.Statement.{statement}
 use Rattle.sheet.proofs.line.figures_line.Tie as tie
-use Rattle.sheet.proofs.line.figures_line.Reads as reads
-use Rattle.sheet.proofs.line.figures_line.Lts as lts
-use Rattle.sheet.proofs.line.put_figure.Reads as put-figure-reads
 
--- src/line.rt:56:37
 element-copy-out-put-figure : tie.Need-element-copy-out-put-figure
 element-copy-out-put-figure c = search needs
 
--- src/line.rt:56:9
 put-figure-requires : tie.Need-put-figure-requires
 put-figure-requires c κs = search needs
 
--- src/line.rt:57:40
 element-copy-out-put-figure-2 : tie.Need-element-copy-out-put-figure-2
 element-copy-out-put-figure-2 c = search needs
 
--- src/line.rt:57:9
 put-figure-requires-2 : tie.Need-put-figure-requires-2
 put-figure-requires-2 c κs = search needs
 
--- src/line.rt:58:40
 element-copy-out-put-figure-3 : tie.Need-element-copy-out-put-figure-3
 element-copy-out-put-figure-3 c = search needs
 
--- src/line.rt:58:9
 put-figure-requires-3 : tie.Need-put-figure-requires-3
 put-figure-requires-3 c κs = search needs
 
--- src/line.rt:59:39
 element-copy-out-put-figure-4 : tie.Need-element-copy-out-put-figure-4
 element-copy-out-put-figure-4 c = search needs
 
--- src/line.rt:59:9
 put-figure-requires-4 : tie.Need-put-figure-requires-4
 put-figure-requires-4 c κs = search needs
 
--- src/line.rt:60:40
 element-copy-out-put-figure-5 : tie.Need-element-copy-out-put-figure-5
 element-copy-out-put-figure-5 c = search needs
 
--- src/line.rt:60:9
 put-figure-requires-5 : tie.Need-put-figure-requires-5
 put-figure-requires-5 c κs = search needs
 
--- src/line.rt:61:38
 element-copy-out-put-figure-6 : tie.Need-element-copy-out-put-figure-6
 element-copy-out-put-figure-6 c = search needs
 
--- src/line.rt:61:9
 put-figure-requires-6 : tie.Need-put-figure-requires-6
 put-figure-requires-6 c κs = search needs
 
--- src/line.rt:62:39
 element-copy-out-put-figure-7 : tie.Need-element-copy-out-put-figure-7
 element-copy-out-put-figure-7 c = search needs
 
--- src/line.rt:62:9
 put-figure-requires-7 : tie.Need-put-figure-requires-7
 put-figure-requires-7 c κs = search needs
 
--- src/line.rt:63:30
 element-copy-out-put-figure-8 : tie.Need-element-copy-out-put-figure-8
 element-copy-out-put-figure-8 c = search needs
 
--- src/line.rt:63:5
 put-figure-requires-8 : tie.Need-put-figure-requires-8
-put-figure-requires-8 c κs = search needs
+put-figure-requires-8 c κs =
+    let put-figure = c .before .before .before .before .before .before .before .before .before .before .before .before .before .before .before .before .before .before .before .before .put-figure in
+    let put-figure2 = c .before .before .before .before .before .before .before .before .before .before .before .before .before .before .before .before .before .put-figure2 in
+    let put-figure3 = c .before .before .before .before .before .before .before .before .before .before .before .before .before .before .put-figure3 in
+    let put-figure4 = c .before .before .before .before .before .before .before .before .before .before .before .put-figure4 in
+    let put-figure5 = c .before .before .before .before .before .before .before .before .put-figure5 in
+    let put-figure6 = c .before .before .before .before .before .put-figure6 in
+    let put-figure7 = c .before .before .put-figure7 in
+    let long = c .before .put-figure-arg15 .given .0 .1 in
+    (omega (arith, put-figure .ensures .low, put-figure2 .ensures .low, put-figure3 .ensures .low, put-figure4 .ensures .low, put-figure5 .ensures .low, put-figure6 .ensures .low, put-figure7 .ensures .low), omega (arith, long, put-figure .ensures .high, put-figure2 .ensures .high, put-figure3 .ensures .high, put-figure4 .ensures .high, put-figure5 .ensures .high, put-figure6 .ensures .high, put-figure7 .ensures .high))
 
--- src/line.rt:53:1
 returns : tie.Need-returns
 returns c =
     let start = c .before .before .before .before .before .before .before .before .before .before .before .before .before .before .before .before .before .before .before .before .before .before .before .before in
@@ -89,10 +78,19 @@ returns c =
     let arg = c .before .before .before .before .before .before .before .before .before .before .before .before .before .before .before .before .before .before .before .before .before .before .before .put-figure-arg in
     let last = c .before .before .put-figure-arg15 in
     let e = line-end (start .args .line .now) 88 (arg .given .0 .1) in
+    let k1 = put-figure .ensures .kept in
+    let k2 = kept-both k1 (put-figure2 .ensures .kept) (put-figure2 .ensures .high) in
+    let k3 = kept-both k2 (put-figure3 .ensures .kept) (put-figure3 .ensures .high) in
+    let k4 = kept-both k3 (put-figure4 .ensures .kept) (put-figure4 .ensures .high) in
+    let k5 = kept-both k4 (put-figure5 .ensures .kept) (put-figure5 .ensures .high) in
+    let k6 = kept-both k5 (put-figure6 .ensures .kept) (put-figure6 .ensures .high) in
+    let k7 = kept-both k6 (put-figure7 .ensures .kept) (put-figure7 .ensures .high) in
+    let k8 = kept-both k7 (put-figure8 .ensures .kept) (put-figure8 .ensures .high) in
     record {
       is = eight-figures f e (put-figure .ensures .is) (put-figure2 .ensures .is) (put-figure3 .ensures .is) (put-figure4 .ensures .is) (put-figure5 .ensures .is) (put-figure6 .ensures .is) (put-figure7 .ensures .is) (put-figure8 .ensures .is);
+      kept = k8;
       low = omega arith;
-      high = omega (arith, last .given .0 .1, put-figure8 .ensures .high);
+      high = omega (arith, put-figure .ensures .high, put-figure2 .ensures .high, put-figure3 .ensures .high, put-figure4 .ensures .high, put-figure5 .ensures .high, put-figure6 .ensures .high, put-figure7 .ensures .high, put-figure8 .ensures .high);
       sized = put-figure8 .ensures .sized ∙ last .given .0 .1;
     }
 

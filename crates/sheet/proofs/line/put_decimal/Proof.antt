@@ -5,11 +5,10 @@ use native.Mathlib.Omega.{arith}
 use borrow.Author.Needs.{needs}
 use lib.ListN.{length, drop, length-set}
 use Rattle.hume.specs.Sheet.{digits, decimal}
-use Rattle.sheet.proofs.Lines.{put-front, digits-more, digits-last, digits-none}
+use Rattle.sheet.specs.Lines.{Kept}
+use Rattle.sheet.proofs.Lines.{put-front, kept-all, kept-front, digits-more, digits-last, digits-none}
 use Rattle.sheet.proofs.line.put_decimal.Statement.{statement}
 use Rattle.sheet.proofs.line.put_decimal.Tie as tie
-use Rattle.sheet.proofs.line.put_decimal.Reads as reads
-use Rattle.sheet.proofs.line.put_decimal.Lts as lts
 
 abbrev Inv-loop : tie.InvT-loop
 Inv-loop line₀ end n at₀ rest₀ left₀ line at rest left =
@@ -17,44 +16,38 @@ Inv-loop line₀ end n at₀ rest₀ left₀ line at rest left =
     × (at + 10 ≡ end + left)
     × (digits left rest (drop at line) ≡ decimal n (drop end line₀))
     × (length line ≡ length line₀)
+    × Kept line₀ line at
 
 abbrev μ-loop : tie.MeasureT-loop
 μ-loop line₀ end n at₀ rest₀ left₀ line at rest left = left
 
--- src/line.rt:17:5
 loop-holds : tie.Need-loop-holds Inv-loop μ-loop
 unfolding decimal
-loop-holds c = (omega arith, refl, refl, refl)
+loop-holds c = (omega arith, refl, refl, refl, kept-all _ _)
 
--- src/line.rt:18:9
 sub-at : tie.Need-sub-at Inv-loop μ-loop
 sub-at c =
     let loop = c .before .loop in
     let start = c .before .before in
     omega (arith, loop .inv .1, start .pre .0)
 
--- src/line.rt:19:25
 cast-line : tie.Need-cast-line Inv-loop μ-loop
 cast-line c = search needs
 
--- src/line.rt:19:20
 add-line : tie.Need-add-line Inv-loop μ-loop
 add-line c = search needs
 
--- src/line.rt:19:9
 slice-write-line : tie.Need-slice-write-line Inv-loop μ-loop
 slice-write-line c =
     let loop = c .before .loop in
     let start = c .before .before in
     omega (arith, loop .inv .1, loop .inv .3, start .pre .0, start .pre .1)
 
--- src/line.rt:21:13
 same-length : tie.Need-same-length Inv-loop μ-loop
 same-length c =
     let loop = c .before .before .loop in
     length-set (loop .line) (loop .at - 1) (48 + loop .rest % 10) ∙ loop .inv .3
 
--- src/line.rt:21:13
 returns : tie.Need-returns Inv-loop μ-loop
 returns c =
     let loop = c .before .before .loop in
@@ -67,20 +60,18 @@ returns c =
           put-front (loop .line) (loop .at) _ (omega (arith, i .1, start .pre .0)) (omega (arith, i .0, i .1, i .3, start .pre .1))
           ∙ sym (digits-last (loop .left) (loop .rest) (drop (loop .at) (loop .line)) (loop-test .taken) (if1 .taken))
           ∙ i .2;
+      kept = kept-front (loop .line) (start .args .line .now) (loop .at) (48 + loop .rest % 10) (i .4);
       low = omega (arith, i .1, loop-test .taken);
-      high = omega (arith, i .0, i .1, start .pre .1);
+      high = omega (arith, i .0, i .1);
       sized = length-set (loop .line) (loop .at - 1) (48 + loop .rest % 10) ∙ i .3;
     }
 
--- src/line.rt:24:9
 sub-left : tie.Need-sub-left Inv-loop μ-loop
 sub-left c = search needs
 
--- src/line.rt:17:5
 loop-less : tie.Need-loop-less Inv-loop μ-loop
 loop-less c = omega arith
 
--- src/line.rt:17:5
 loop-again : tie.Need-loop-again Inv-loop μ-loop
 loop-again c =
     let loop = c .before .before .loop in
@@ -95,15 +86,14 @@ loop-again c =
           ∙ sym (digits-more (loop .left) (loop .rest) (drop (loop .at) (loop .line)) (loop-test .taken) (if1 .left))
           ∙ i .2,
       length-set (loop .line) (loop .at - 1) (48 + loop .rest % 10) ∙ i .3,
+      kept-front (loop .line) (start .args .line .now) (loop .at) (48 + loop .rest % 10) (i .4),
     )
 
--- src/line.rt:10:1
 same-length-2 : tie.Need-same-length-2 Inv-loop μ-loop
 same-length-2 c =
     let loop = c .before .loop in
     loop .inv .3
 
--- src/line.rt:10:1
 returns-2 : tie.Need-returns-2 Inv-loop μ-loop
 returns-2 c =
     let loop = c .before .loop in
@@ -112,8 +102,9 @@ returns-2 c =
     let i = loop .inv in
     record {
       is = sym (digits-none (loop .left) (loop .rest) (drop (loop .at) (loop .line)) (loop-test .left)) ∙ i .2;
+      kept = i .4;
       low = omega (arith, i .1);
-      high = omega (arith, i .0, i .1, start .pre .1);
+      high = omega (arith, i .0, i .1);
       sized = i .3;
     }
 

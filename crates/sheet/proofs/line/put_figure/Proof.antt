@@ -6,37 +6,28 @@ use Rattle.sheet.proofs.Lines.{figure-front}
 use borrow.Author.Needs.{needs}
 use Rattle.sheet.proofs.line.put_figure.Statement.{statement}
 use Rattle.sheet.proofs.line.put_figure.Tie as tie
-use Rattle.sheet.proofs.line.put_figure.Reads as reads
-use Rattle.sheet.proofs.line.put_figure.Lts as lts
-use Rattle.sheet.proofs.line.put_decimal.Reads as put-decimal-reads
 
--- src/line.rt:34:10
 sub-line : tie.Need-sub-line
 sub-line c = search needs
 
--- src/line.rt:34:5
 slice-write-line : tie.Need-slice-write-line
 slice-write-line c = search needs
 
--- src/line.rt:35:23
 sub-put-decimal : tie.Need-sub-put-decimal
 sub-put-decimal c = search needs
 
--- src/line.rt:35:5
 put-decimal-requires : tie.Need-put-decimal-requires
 put-decimal-requires c κs =
     let start = c .before .before in
     let e = length-set (start .args .line .now) (start .args .end - 1) (start .args .after) in
     (omega (arith, start .pre .0), omega (arith, start .pre .1, e))
 
--- src/line.rt:30:1
 same-length : tie.Need-same-length
 same-length c =
     let line = c .before .line in
     let start = c .before .before .before .before .before in
     line .given ∙ length-set (start .args .line .now) (start .args .end - 1) (start .args .after)
 
--- src/line.rt:30:1
 returns : tie.Need-returns
 returns c =
     let start = c .before .before .before .before .before in

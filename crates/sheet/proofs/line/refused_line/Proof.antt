@@ -1,27 +1,19 @@
 use mathlib.Core.Path.{_∙_}
 use native.Mathlib.Omega.{arith}
-use Rattle.sheet.proofs.Lines.{line-end, refused-text}
+use Rattle.sheet.proofs.Lines.{line-end, kept-both, refused-text}
 use borrow.Author.Needs.{needs}
 use Rattle.sheet.proofs.line.refused_line.Statement.{statement}
 use Rattle.sheet.proofs.line.refused_line.Tie as tie
-use Rattle.sheet.proofs.line.refused_line.Reads as reads
-use Rattle.sheet.proofs.line.refused_line.Lts as lts
-use Rattle.sheet.proofs.line.put_figure.Reads as put-figure-reads
-use Rattle.sheet.proofs.line.put_text.Reads as put-text-reads
 
--- src/line.rt:69:9
 put-figure-requires : tie.Need-put-figure-requires
 put-figure-requires c κs = search needs
 
--- src/line.rt:70:28
 slice-aggregate-put-text : tie.Need-slice-aggregate-put-text
 slice-aggregate-put-text c = search needs
 
--- src/line.rt:70:5
 put-text-requires : tie.Need-put-text-requires
 put-text-requires c κs = search needs
 
--- src/line.rt:66:1
 returns : tie.Need-returns
 returns c =
     let start = c .before .before .before .before .before in
@@ -32,8 +24,9 @@ returns c =
     let e = line-end (start .args .line .now) 88 (arg .given .0 .1) in
     record {
       is = refused-text _ e (put-figure .ensures .is) (put-text .ensures .is);
+      kept = kept-both (put-figure .ensures .kept) (put-text .ensures .kept) (put-text .ensures .high);
       low = omega arith;
-      high = omega (arith, last .given .0 .1, put-text .ensures .high);
+      high = omega (arith, put-figure .ensures .high, put-text .ensures .high);
       sized = put-text .ensures .sized ∙ last .given .0 .1;
     }
 
