@@ -3,6 +3,7 @@ use mathlib.Core.Path.{_≡_}
 use mathlib.Core.List.{List}
 use Prim.Native.Nat.{ℕ}
 use lib.ListN.{length}
+use Rattle.limits.specs.Machine.{Limits as Bound}
 use Rattle.hume.specs.Call.{Given}
 use Rattle.reach.specs.Demands.{Allowed, Typed}
 use Rattle.engine.specs.Turns.{Buffers}
