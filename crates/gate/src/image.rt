@@ -27,7 +27,7 @@ pub struct Layout {
 }
 
 // A byte; past the end, 0.
-pub(crate) fn byte_at(m: &[u8], i: usize) -> usize
+pub fn byte_at(m: &[u8], i: usize) -> usize
     ensures { λ r. ⌜ Read (byte (now (m .entry)) i) 256 r ⌝ }
 {
     if i < m.len() { m[i] as usize } else { 0 }
@@ -43,7 +43,7 @@ pub(crate) fn half_at(m: &[u8], i: usize) -> usize
     byte_at(m, i) * 256 + byte_at(m, i + 1)
 }
 
-pub(crate) fn full_at(m: &[u8], i: usize) -> usize
+pub fn full_at(m: &[u8], i: usize) -> usize
     ensures { λ r. ⌜ Read (full (now (m .entry)) i) (2 ^ 32) r ⌝ }
 {
     if m.len() <= i {

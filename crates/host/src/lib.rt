@@ -10,7 +10,7 @@ ghost use Rattle.gate.specs.Verdicts.{number, given};
 ghost use Rattle.engine.specs.Reports.{endingNumber, detailNumber, reported};
 ghost use Rattle.host.specs.Told.{recordedBy, recorded};
 
-fn number_of(v: Verdict) -> u32
+pub fn number_of(v: Verdict) -> u32
     ensures { λ r. ⌜ r ≡ number v ⌝ }
 {
     match v {

@@ -16,7 +16,7 @@ use Rattle.hume.specs.Instructions.{MkBool, MkInt, MkFloat, MkNone, mkBl
 use Rattle.hume.specs.Instructions.{StartMatches, MatchRule, MatchedRule, MatchNone, MatchAvailable, matches, cellIs, MatchBool, MatchInt, MatchFloat, MatchTuple, MatchCon, MatchExn, isTupleOrConstr, Unpack, moveLast, reordered, Reorder, CopyInput, Consume, MaybeConsume, outputAt, holdsUp, checked, CheckOutputs, Write, Schedule, instructions}
 use Rattle.hume.specs.Machine.{instruction, deed, charged, price, acts, machine, start}
 use Rattle.hume.specs.Call.{Given, Answer, endingOf, detailOf, figuresOf, area, outcome, ran, refused, lentRefusal, firstOf, refusal, answerBy, answer}
-use Rattle.hume.specs.Sheet.{imageReadable, imageRead, sheetRead, sheetWord, sheetWords, sheetLength, sheetOk, counting, firstOrder, sheetGiven, sheetRefusal, programRefusal, digits, decimal, figuresLine, refusedLine, printedBy, printed}
+use Rattle.hume.specs.Sheet.{imageReadable, imageRead, sheetRead, sheetWord, sheetWords, sheetLength, sheetOk, counting, firstOrder, sheetGiven, sheetRefusal, partsRefusal, programRefusal, digits, decimal, figuresLine, refusedLine, printedBy, printed}
 
 -- the refusal, the eight figures, the words in use of both areas, the wires and the order
 unfoldable pub shown : Answer → List ℕ
@@ -52,5 +52,5 @@ counted g = figured (answer g)
 
 -- what the program writes
 unfoldable pub told : List ℕ → List ℕ
-unfolding seen imageReadable imageRead sheetRead sheetWord sheetWords sheetLength sheetOk counting firstOrder sheetGiven sheetRefusal programRefusal digits decimal figuresLine refusedLine printedBy printed
+unfolding seen imageReadable imageRead sheetRead sheetWord sheetWords sheetLength sheetOk counting firstOrder sheetGiven sheetRefusal partsRefusal programRefusal digits decimal figuresLine refusedLine printedBy printed
 told bytes = printed bytes

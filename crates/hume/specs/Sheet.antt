@@ -62,10 +62,11 @@ sheetGiven image sheet =
 unfoldable pub sheetRefusal : List ℕ → List ℕ → ℕ
 sheetRefusal image sheet = unless (sheetOk (program image) sheet) 9 (lentRefusal (sheetGiven image sheet))
 
+unfoldable pub partsRefusal : List ℕ → List ℕ → ℕ
+partsRefusal image sheet = firstOf (imageRefusal image) (sheetRefusal image sheet)
+
 unfoldable pub programRefusal : List ℕ → ℕ
-programRefusal bytes =
-    unless (imageReadable bytes) 1
-    (firstOf (imageRefusal (imageRead bytes)) (sheetRefusal (imageRead bytes) (sheetRead bytes)))
+programRefusal bytes = unless (imageReadable bytes) 1 (partsRefusal (imageRead bytes) (sheetRead bytes))
 
 -- ---- "It prints the eight figures in that order on one line, or `refused N`."
 
@@ -106,9 +107,9 @@ figuresLine f =
 unfoldable pub refusedLine : ℕ → List ℕ
 refusedLine n = 114 ∷ 101 ∷ 102 ∷ 117 ∷ 115 ∷ 101 ∷ 100 ∷ space ∷ decimal n (newline ∷ [])
 
-unfoldable pub printedBy : ℕ → List ℕ → List ℕ
-printedBy zero bytes = figuresLine (figuresOf (outcome (sheetGiven (imageRead bytes) (sheetRead bytes))))
-printedBy (suc n) bytes = refusedLine (suc n)
+unfoldable pub printedBy : ℕ → List ℕ → List ℕ → List ℕ
+printedBy zero image sheet = figuresLine (figuresOf (outcome (sheetGiven image sheet)))
+printedBy (suc n) image sheet = refusedLine (suc n)
 
 unfoldable pub printed : List ℕ → List ℕ
-printed bytes = printedBy (programRefusal bytes) bytes
+printed bytes = printedBy (programRefusal bytes) (imageRead bytes) (sheetRead bytes)
