@@ -26,6 +26,7 @@ use Rattle.engine.specs.declared.Ending.the-variants as ending
 use Rattle.engine.specs.declared.regs.Limits.{Limits}
 use Rattle.engine.specs.declared.regs.Regs.{Regs}
 use Rattle.engine.specs.declared.regs.Turn.{Turn}
+use Rattle.engine.proofs.After.{built}
 use Rattle.engine.proofs.Turning.{Leads, stops, lead-grown, lead-still, values-are, reads-below}
 use Rattle.engine.proofs.Areas.{bears-push, bears-without, locals-append}
 use Rattle.engine.proofs.WordKinds.{payload-is, ref-yes, ref-no, number-is, second-is}
@@ -177,25 +178,6 @@ unfolding all downward
 values-end ws i a h = ap (λ (n : ℕ). all isValue (downward ws i n)) (let z : a - i ≡ 0 = omega arith in z)
 
 -- ---- what building leads to
-
--- the registers at the next instruction, with this depth and heap
-abbrev pub built : Regs → ℕ → ℕ → Regs
-built r sp hp =
-    record {
-      pc = r .pc + 1;
-      sp = sp;
-      hp = hp;
-      fp = r .fp;
-      lp = r .lp;
-      slp = r .slp;
-      rp = r .rp;
-      mp = r .mp;
-      inp = r .inp;
-      rs = r .rs;
-      steps = r .steps;
-      left = r .left;
-      peak = r .peak;
-    }
 
 module _ {lim : Limits} {r : Regs} (f : Fit lim r) {st he : List ℕ} {ws hs : List Word} (h : Holds r st he ws hs)
     (wi or : List ℕ) where

@@ -30,6 +30,7 @@ use Rattle.engine.specs.declared.Ending.the-variants as ending
 use Rattle.engine.specs.declared.regs.Limits.{Limits}
 use Rattle.engine.specs.declared.regs.Regs.{Regs}
 use Rattle.engine.specs.declared.regs.Turn.{Turn}
+use Rattle.engine.proofs.After.{built}
 use Rattle.engine.proofs.Turning.{Leads, stops, lead-grown}
 use Rattle.engine.proofs.Areas.{bears-push, locals-append}
 
@@ -464,25 +465,6 @@ module _ {w : List ℕ} {a k : ℕ} (u : Input w a k) where
 
 -- ---- what CopyInput leads to
 
--- the registers at the next instruction, with this depth and this heap
-abbrev pub heaped : Regs → ℕ → ℕ → Regs
-heaped r sp hp =
-    record {
-      pc = r .pc + 1;
-      sp = sp;
-      hp = hp;
-      fp = r .fp;
-      lp = r .lp;
-      slp = r .slp;
-      rp = r .rp;
-      mp = r .mp;
-      inp = r .inp;
-      rs = r .rs;
-      steps = r .steps;
-      left = r .left;
-      peak = r .peak;
-    }
-
 module _ {lim : Limits} {r : Regs} (f : Fit lim r) {st he : List ℕ} {ws hs : List Word} (h : Holds r st he ws hs)
     (wi or : List ℕ) (a : ℕ) where
   abbrev s : State
@@ -499,11 +481,11 @@ module _ {lim : Limits} {r : Regs} (f : Fit lim r) {st he : List ℕ} {ws hs : L
 
   module _ {k : ℕ} (u : Input wi a k) where
     pub copy-leads : (cost n : ℕ) → (getD wi (65 * a) 0 ≡ 0 → ⊥) → n ≡ size (u .value)
-        → Leads cost (priced cost (CopyInput a) s) (heaped r (r .sp + 1) (r .hp + n)) (ws ++ refers (u .value) (length hs) ∷ [])
+        → Leads cost (priced cost (CopyInput a) s) (built r (r .sp + 1) (r .hp + n)) (ws ++ refers (u .value) (length hs) ∷ [])
         (hs ++ placed (u .value) (length hs)) wi or
     unfolding CopyInput isEmpty wireCount
     copy-leads cost n z e =
-        lead-grown cost s (heaped r (r .sp + 1) (r .hp + n)) cost 0 (placed (u .value) (length hs))
+        lead-grown cost s (built r (r .sp + 1) (r .hp + n)) cost 0 (placed (u .value) (length hs))
         (need-yes (not (eqb (getD wi (65 * a) 0) 0)) 8 _
         (not-T (eqb (getD wi (65 * a) 0) 0) (λ t. z (eqb→eq (getD wi (65 * a) 0) 0 t)))
         ∙ ap (λ (v : Value). goes 0 (leaving s (next (s .regs)) (ws ++ refers v (length hs) ∷ []) (placed v (length hs)))) (u .reads))

@@ -1,3 +1,4 @@
+pub mod After
 pub mod Charges
 pub mod Turning
 pub mod Areas

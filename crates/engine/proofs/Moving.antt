@@ -20,6 +20,7 @@ use Rattle.engine.specs.declared.Ending.the-variants as ending
 use Rattle.engine.specs.declared.regs.Limits.{Limits}
 use Rattle.engine.specs.declared.regs.Regs.{Regs}
 use Rattle.engine.specs.declared.regs.Turn.{Turn}
+use Rattle.engine.proofs.After.{after}
 use Rattle.engine.proofs.Turning.{Leads, stops, lead-still, values-are}
 use Rattle.engine.proofs.Areas.{locals-take, locals-append, locals-set, bears-push, bears-set, bears-without}
 use Rattle.engine.proofs.WordKinds.{not-so}
@@ -28,40 +29,12 @@ use Rattle.engine.proofs.Stores.{bears-nulls, length-without, locals-wi
 -- the registers at the next instruction, with this depth
 abbrev pub stacked : Regs → ℕ → Regs
 stacked r sp =
-    record {
-      pc = r .pc + 1;
-      sp = sp;
-      hp = r .hp;
-      fp = r .fp;
-      lp = r .lp;
-      slp = r .slp;
-      rp = r .rp;
-      mp = r .mp;
-      inp = r .inp;
-      rs = r .rs;
-      steps = r .steps;
-      left = r .left;
-      peak = r .peak;
-    }
+    after r (r .pc + 1) sp (r .hp) (r .fp) (r .lp) (r .slp) (r .rp) (r .mp) (r .inp) (r .rs)
 
 -- the registers in a new frame of a locals
 abbrev pub framing : Regs → ℕ → Regs
 framing r a =
-    record {
-      pc = r .pc + 1;
-      sp = r .sp + 1 + a;
-      hp = r .hp;
-      fp = r .sp + 1;
-      lp = r .sp + 1 + a;
-      slp = r .slp;
-      rp = r .rp;
-      mp = r .mp;
-      inp = r .inp;
-      rs = r .rs;
-      steps = r .steps;
-      left = r .left;
-      peak = r .peak;
-    }
+    after r (r .pc + 1) (r .sp + 1 + a) (r .hp) (r .sp + 1) (r .sp + 1 + a) (r .slp) (r .rp) (r .mp) (r .inp) (r .rs)
 
 module _ {lim : Limits} {r : Regs} (f : Fit lim r) {st he : List ℕ} {ws hs : List Word} (h : Holds r st he ws hs)
     (wi or : List ℕ) where

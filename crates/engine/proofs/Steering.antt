@@ -28,6 +28,7 @@ use Rattle.engine.specs.declared.Ending.the-variants as ending
 use Rattle.engine.specs.declared.regs.Limits.{Limits}
 use Rattle.engine.specs.declared.regs.Regs.{Regs}
 use Rattle.engine.specs.declared.regs.Turn.{Turn}
+use Rattle.engine.proofs.After.{after}
 use Rattle.engine.proofs.Turning.{Leads, stops, lead-still, values-are, reads-below}
 use Rattle.engine.proofs.Areas.{locals-take, locals-append, bears-push, bears-take}
 use Rattle.engine.proofs.WordKinds.{not-so, low-byte, type-is, payload-is, cell-no, cell-is, second-is}
@@ -38,59 +39,17 @@ use Rattle.engine.proofs.Stores.{length-without, locals-without}
 -- at another instruction, with this depth
 abbrev pub heading : Regs → ℕ → ℕ → Regs
 heading r pc sp =
-    record {
-      pc = pc;
-      sp = sp;
-      hp = r .hp;
-      fp = r .fp;
-      lp = r .lp;
-      slp = r .slp;
-      rp = r .rp;
-      mp = r .mp;
-      inp = r .inp;
-      rs = r .rs;
-      steps = r .steps;
-      left = r .left;
-      peak = r .peak;
-    }
+    after r pc sp (r .hp) (r .fp) (r .lp) (r .slp) (r .rp) (r .mp) (r .inp) (r .rs)
 
 -- at the entry of the ruleset a
 abbrev pub entering : Regs → ℕ → ℕ → Regs
 entering r a to =
-    record {
-      pc = to;
-      sp = r .sp + 3;
-      hp = r .hp;
-      fp = r .fp;
-      lp = r .lp;
-      slp = r .sp + 4;
-      rp = 0;
-      mp = r .mp;
-      inp = r .inp;
-      rs = a;
-      steps = r .steps;
-      left = r .left;
-      peak = r .peak;
-    }
+    after r to (r .sp + 3) (r .hp) (r .fp) (r .lp) (r .sp + 4) 0 (r .mp) (r .inp) a
 
 -- where the frame was made
 abbrev pub restored : Regs → List ℕ → ℕ → Regs
 restored r st lp =
-    record {
-      pc = getD st (r .fp - 4) 0 % 2 ^ 28;
-      sp = r .fp - 3;
-      hp = r .hp;
-      fp = getD st (r .fp - 1) 0 % 2 ^ 28 / 256;
-      lp = lp;
-      slp = getD st (r .fp - 2) 0 % 2 ^ 28;
-      rp = getD st (r .fp - 3) 0 % 256;
-      mp = r .mp;
-      inp = r .inp;
-      rs = getD st (r .fp - 3) 0 % 2 ^ 28 / 256;
-      steps = r .steps;
-      left = r .left;
-      peak = r .peak;
-    }
+    after r (getD st (r .fp - 4) 0 % 2 ^ 28) (r .fp - 3) (r .hp) (getD st (r .fp - 1) 0 % 2 ^ 28 / 256) lp (getD st (r .fp - 2) 0 % 2 ^ 28) (getD st (r .fp - 3) 0 % 256) (r .mp) (r .inp) (getD st (r .fp - 3) 0 % 2 ^ 28 / 256)
 
 -- a turn after which nothing goes on
 abbrev pub closed : Turn → Turn

@@ -29,6 +29,7 @@ use Rattle.engine.specs.declared.regs.Limits.{Limits}
 use Rattle.engine.specs.declared.regs.Regs.{Regs}
 use Rattle.engine.specs.declared.regs.Turn.{Turn}
 use Rattle.engine.specs.declared.matching.Attempt.{Attempt}
+use Rattle.engine.proofs.After.{after}
 use Rattle.engine.proofs.Turning.{Leads, Borne, stops, lead-still, turned-as}
 use Rattle.engine.proofs.Areas.{locals-take, bears-take}
 use Rattle.engine.proofs.WordKinds.{cell-no, cell-is, second-is}
@@ -75,40 +76,12 @@ module _ {n : ℕ} {v : Word} (e : n ≡ bits v) (s : Small v) {he : List ℕ} {
 -- at another instruction, with this rp, mp and inp
 abbrev pub routed : Regs → ℕ → ℕ → ℕ → ℕ → Regs
 routed r pc rp mp inp =
-    record {
-      pc = pc;
-      sp = r .sp;
-      hp = r .hp;
-      fp = r .fp;
-      lp = r .lp;
-      slp = r .slp;
-      rp = rp;
-      mp = mp;
-      inp = inp;
-      rs = r .rs;
-      steps = r .steps;
-      left = r .left;
-      peak = r .peak;
-    }
+    after r pc (r .sp) (r .hp) (r .fp) (r .lp) (r .slp) rp mp inp (r .rs)
 
 -- and without values
 abbrev pub emptied : Regs → ℕ → ℕ → ℕ → Regs
 emptied r rp mp inp =
-    record {
-      pc = r .pc + 1;
-      sp = r .lp;
-      hp = r .hp;
-      fp = r .fp;
-      lp = r .lp;
-      slp = r .slp;
-      rp = rp;
-      mp = mp;
-      inp = inp;
-      rs = r .rs;
-      steps = r .steps;
-      left = r .left;
-      peak = r .peak;
-    }
+    after r (r .pc + 1) (r .lp) (r .hp) (r .fp) (r .lp) (r .slp) rp mp inp (r .rs)
 
 module _ {r : Regs} {st he : List ℕ} {ws hs : List Word} (h : Holds r st he ws hs) (wi or : List ℕ) where
   abbrev s : State

@@ -34,9 +34,10 @@ use Rattle.engine.specs.declared.regs.Limits.{Limits}
 use Rattle.engine.specs.declared.regs.Regs.{Regs}
 use Rattle.engine.specs.declared.regs.Turn.{Turn}
 use Rattle.engine.specs.declared.prims.Yielded.{Yielded}
+use Rattle.engine.proofs.After.{after, built}
 use Rattle.engine.proofs.Turning.{Leads, stops, turned-as, lead-grown, values-are}
 use Rattle.engine.proofs.Areas.{bears-push, locals-take}
-use Rattle.engine.proofs.Building.{bears-two, built, builds-lead}
+use Rattle.engine.proofs.Building.{bears-two, builds-lead}
 use Rattle.engine.proofs.WordKinds.{cell-no, cell-is, second-is}
 
 -- ---- the table of cycles
@@ -469,21 +470,7 @@ module _ {r : Regs} {st he : List ℕ} {ws hs : List Word} (h : Holds r st he ws
 -- the registers where a handler is entered
 abbrev pub entered : Regs → ℕ → ℕ → Regs
 entered r handler entry =
-    record {
-      pc = entry;
-      sp = 5;
-      hp = r .hp + 3;
-      fp = 5;
-      lp = 5;
-      slp = 0;
-      rp = 0;
-      mp = r .mp;
-      inp = r .inp;
-      rs = handler;
-      steps = r .steps;
-      left = r .left;
-      peak = r .peak;
-    }
+    after r entry 5 (r .hp + 3) 5 5 0 0 (r .mp) (r .inp) handler
 
 -- "the stack becomes the exception, three nulls and a frame link with fp 0 and n 0"
 abbrev pub thrown : ℕ → List Word
