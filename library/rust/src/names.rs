@@ -50,6 +50,43 @@ pub struct Figures {
     pub heap: u32,
 }
 
+impl Ending {
+    /// "0 finished, 1 blocked (output), 2 fault (number), 3 no rule left after a failed match, 4 exception (number) with
+    /// no handler, 5 time, 6 stack, 7 heap."
+    pub fn number(self) -> u32 {
+        match self {
+            Ending::Finished => 0,
+            Ending::Blocked { .. } => 1,
+            Ending::Fault(_) => 2,
+            Ending::NoRule => 3,
+            Ending::Unhandled { .. } => 4,
+            Ending::Time => 5,
+            Ending::Stack => 6,
+            Ending::Heap => 7,
+        }
+    }
+
+    /// "The detail is the bracketed number, else 0."
+    pub fn detail(self) -> u32 {
+        match self {
+            Ending::Blocked { output } => output,
+            Ending::Fault(fault) => fault as u32,
+            Ending::Unhandled { exception } => exception,
+            _ => 0,
+        }
+    }
+}
+
+impl Figures {
+    /// The eight figures in document 01's order.
+    pub fn in_order(&self) -> [u32; 8] {
+        let (number, detail) = (self.ending.number(), self.ending.detail());
+        [
+            number, detail, self.pc, self.steps, self.time, self.peak, self.depth, self.heap,
+        ]
+    }
+}
+
 pub(crate) fn refusal(number: u32) -> Refusal {
     match number {
         1 => Refusal::Length,

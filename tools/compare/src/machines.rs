@@ -19,7 +19,7 @@ pub struct Outcome {
 pub enum Answer {
     Figures([u32; 8]),
     Refused(u32),
-    /// A refusal must leave the figures 0, and there are none above 8.
+    /// A refusal must leave the figures 0, there are none above 8, and by name it must be the same.
     #[cfg(feature = "proved")]
     Odd(u32, [u32; 8]),
     Panicked,
@@ -139,25 +139,45 @@ mod proved {
     use cases::Case;
     use homirelanto::{run_numbered, Lent, Limits};
 
+    /// The case's call, on these buffers.
+    fn call(case: &Case, buffers: &mut Outcome, figures: &mut [u32; 8]) -> u32 {
+        let (limits, lent) = lend(case, buffers);
+        run_numbered(&case.image, &case.card, limits, lent, figures)
+    }
+
+    /// The same by name, in numbers again.
+    fn named(case: &Case, buffers: &mut Outcome) -> Result<[u32; 8], u32> {
+        let (limits, lent) = lend(case, buffers);
+        match homirelanto::run(&case.image, &case.card, limits, lent) {
+            Ok(figures) => Ok(figures.in_order()),
+            Err(refusal) => Err(refusal as u32),
+        }
+    }
+
+    fn lend<'a>(case: &Case, buffers: &'a mut Outcome) -> (Limits, Lent<'a>) {
+        let limits = Limits {
+            time: case.time,
+            stack: case.stack_limit,
+            heap: case.heap_limit,
+        };
+        let lent = Lent {
+            stack: &mut buffers.stack,
+            heap: &mut buffers.heap,
+            wires: &mut buffers.wires,
+            order: &mut buffers.order,
+        };
+        (limits, lent)
+    }
+
     pub fn run(case: &Case) -> Outcome {
         outcome(case, |buffers| {
             let mut figures = [0; 8];
-            let limits = Limits {
-                time: case.time,
-                stack: case.stack_limit,
-                heap: case.heap_limit,
-            };
-            let lent = Lent {
-                stack: &mut buffers.stack,
-                heap: &mut buffers.heap,
-                wires: &mut buffers.wires,
-                order: &mut buffers.order,
-            };
-            let refusal = run_numbered(&case.image, &case.card, limits, lent, &mut figures);
+            let names = named(case, &mut buffers.clone());
+            let refusal = call(case, buffers, &mut figures);
             match refusal {
-                0 => Answer::Figures(figures),
+                0 if names == Ok(figures) => Answer::Figures(figures),
                 // "A call turned away returns the number with all figures 0 and writes to no buffer."
-                1..=8 if figures == [0; 8] => Answer::Refused(refusal),
+                1..=8 if figures == [0; 8] && names == Err(refusal) => Answer::Refused(refusal),
                 _ => Answer::Odd(refusal, figures),
             }
         })
