@@ -9,12 +9,12 @@ use native.Mathlib.Omega.{arith}
 use lib.Dec.{eqb, eqb→eq, leb, leb→le, le→leb}
 use lib.ListN.{length, getD, set, take, drop, length-append, length-set, length-drop, List·getD-append}
 use lib.Seq.{length-take-le, getD-take, getD-drop, getD-set-same, getD-set-other, getD-append-add}
-use Rattle.hume.specs.Words.{Word, null, ref, raw, bits, isValue, boolHeader, intHeader, floatHeader, tupleHeader, constrHeader}
+use Rattle.hume.specs.Words.{Word, null, ref, raw, bits, isValue, boolHeader, intHeader, floatHeader, tupleHeader}
 use Rattle.hume.specs.Numbers.{canonical}
 use Rattle.hume.specs.Tests.{all}
 use Rattle.hume.specs.State.{State, Deed, fault, values, locals, without, builds, below, downward, hp, numberAt, second}
 use Rattle.hume.specs.Machine.{charged}
-use Rattle.hume.specs.Instructions.{MkBool, MkInt, MkFloat, MkTuple, MkCon, mkBlock, isTupleOrConstr, Unpack}
+use Rattle.hume.specs.Instructions.{MkBool, MkInt, MkFloat, mkBlock, isTupleOrConstr, Unpack}
 use Rattle.laws.specs.Sizes.{Small}
 use Rattle.laws.proofs.Deeds.{need-yes, need-no}
 use Rattle.laws.proofs.Tests.{of-true, to-true, OneOf, one, other, or-cases}
@@ -46,14 +46,6 @@ mk-int c s = refl
 pub mk-float : (c : ℕ) (s : State) → MkFloat c s ≡ making floatHeader (canonical c) s
 unfolding MkFloat
 mk-float c s = refl
-
-pub mk-tuple : (a : ℕ) (s : State) → MkTuple a s ≡ mkBlock tupleHeader a s
-unfolding MkTuple
-mk-tuple a s = refl
-
-pub mk-con : (a b : ℕ) (s : State) → MkCon a b s ≡ mkBlock (constrHeader b) a s
-unfolding MkCon
-mk-con a b s = refl
 
 -- ---- areas
 
@@ -196,12 +188,6 @@ module _ {lim : Limits} {r : Regs} (f : Fit lim r) {st he : List ℕ} {ws hs : L
       (h .lp
       ∙ ap (λ (x : ℕ). r .fp + x)
       (sym (locals-append (r .fp) lower (ref (hp s) ∷ []) (subst (λ (x : ℕ). r .fp ≤ x) q low) ∙ same)))
-
-  pub making-leads : (cost x c : ℕ)
-      → Leads cost (priced cost (making x c) s) (built r (r .sp + 1) (r .hp + 2)) (ws ++ ref (hp s) ∷ []) (hs ++ raw x ∷ raw c ∷ []) wi or
-  making-leads cost x c =
-      builds-lead cost cost 0 (r .sp) (r .hp + 2) ws (raw x ∷ raw c ∷ []) refl (omega arith) (h .sp)
-      (omega (arith, f .fp, f .lp)) refl refl
 
   pub without-sp : (a : ℕ) → r .sp - a ≡ length (without a ws)
   without-sp a = ap (λ (n : ℕ). n - a) (h .sp) ∙ sym (length-without a ws)

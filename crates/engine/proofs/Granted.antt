@@ -17,7 +17,6 @@ use Rattle.laws.specs.Whole.{Whole}
 use Rattle.laws.proofs.Objects.{whole-inside, whole-block}
 use Rattle.laws.proofs.Tests.{and-left, and-right}
 use Rattle.reach.specs.Sound.{Plain, Frames, bottom, frame, isNull, isRef, isNone, isRet, isRules, isStatic}
-use Rattle.engine.specs.Fits.{Refs}
 use Rattle.engine.specs.Blocks.{Blocks}
 use Rattle.engine.specs.Outcomes.{Applies}
 use Rattle.engine.specs.Turns.{Smalls, Holds}
@@ -69,9 +68,6 @@ module _ {P : Program} {r : Regs} {st he : List ℕ} {ws hs : List Word} (h : Ho
   refers i k t =
       let e : getD st i 0 ≡ bits (getD ws i null) = h .stack .get i (omega (arith, h .sp)) in
       subst (Whole hs) (sym (payload-is e (m .each i))) (frames-whole g i (sym (type-is e (m .each i)) ∙ t))
-
-  pub frames-refs : Refs r st
-  frames-refs = record { each = λ i k t. let z = whole-inside (refers i k t) in omega (arith, z, h .hp) }
 
   pub frames-blocks : Blocks r st he
   frames-blocks =

@@ -16,7 +16,7 @@ use Rattle.hume.specs.Words.{Word, null, bits, isRef, isNone, isValue}
 use Rattle.hume.specs.Image.{Program}
 use Rattle.hume.specs.Values.{wireCount, isEmpty, setWire}
 use Rattle.hume.specs.State.{State, fault, blocked, Deed, values, locals, need, next, turns, below, downward}
-use Rattle.hume.specs.Instructions.{Consume, MaybeConsume, outputAt, holdsUp, checked, CheckOutputs}
+use Rattle.hume.specs.Instructions.{Consume, outputAt, holdsUp, checked, CheckOutputs}
 use Rattle.hume.specs.Machine.{charged}
 use Rattle.laws.specs.Sizes.{Small}
 use Rattle.laws.proofs.Tests.{and-left, and-right, and-both, or-left, or-right, eqb-of, pick-true, pick-false, all-at, all-of}
@@ -56,11 +56,6 @@ unfolding charged
 lead-wired cost s next p a b c =
     let z : cost + 0 ≡ cost = omega arith in
     record { same = rw (p, append-nil, z); sp = a; hp = b; lp = c }
-
--- the two that empty a wire are one
-pub maybe-is : (a : ℕ) (s : State) → MaybeConsume a s ≡ Consume a s
-unfolding MaybeConsume
-maybe-is a s = refl
 
 -- ---- the kinds of words, from their 32 bits
 

@@ -288,12 +288,6 @@ module _ (l : List ℕ) (i : ℕ) where
         let c : length (take (k - i) (drop (i + 1) l)) ≡ k - i = length-take-le (k - i) (drop (i + 1) l) (omega arith) in
         length-append (take i l) (take (k - i) (drop (i + 1) l)) ∙ omega arith
 
-    pub shift-length : length (shifted k) ≡ length l
-    shift-length =
-        let a : length (front k) ≡ k = front-length in
-        let b : length (drop k l) ≡ length l - k = length-drop k l in
-        length-append (front k) (drop k l) ∙ omega arith
-
     shift-set : (v : ℕ) → set (shifted k) k v ≡ front k ++ v ∷ drop (suc k) l
     shift-set v =
         ap (λ (x : List ℕ). set (front k ++ x) k v) (drop-cons l k 0 m)

@@ -3,7 +3,7 @@ use mathlib.Core.Path.{_≡_, refl, sym, ap, _∙_}
 use mathlib.Core.List.{List, [], _∷_, _++_, map, append-nil, append-assoc}
 use Prim.Native.Nat.{ℕ, zero, suc, _+_, _-_, _≤_, _<_}
 use native.Mathlib.Omega.{arith}
-use lib.ListN.{length-drop, take-append-drop, length, getD, set, take, drop, replicate, length-append, length-replicate, length-map, replicate-append-replicate, List·getD-map}
+use lib.ListN.{take-append-drop, length, getD, set, take, drop, replicate, length-append, length-replicate, length-map, replicate-append-replicate, List·getD-map}
 use lib.Seq.{length-take-le, drop-cons, set-at, drop-length, ext-getD, getD-take}
 use Rattle.hume.specs.Words.{Word, null, bits}
 use Rattle.hume.specs.Call.{area}
@@ -45,13 +45,6 @@ cleared-next s from k h m =
     ∙ sym (append-assoc (take from s ++ zeros (k - from)) (0 ∷ []) (drop (suc k) s))
     ∙ ap (λ (l : List ℕ). l ++ drop (suc k) s) (zeros-next s from k h)
     ∙ ap (λ (n : ℕ). (take from s ++ zeros (k + 1 - from)) ++ drop n s) e
-
-pub cleared-length : (s : List ℕ) (from k : ℕ) → from ≤ k → k ≤ length s → length (cleared s from k) ≡ length s
-cleared-length s from k h m =
-    let e = length-append (take from s ++ zeros (k - from)) (drop k s) in
-    let f = front-length s from k h m in
-    let d = length-drop k s in
-    omega (arith, e, f, d)
 
 -- all
 pub cleared-all : (s : List ℕ) (from k : ℕ) → k ≡ length s → cleared s from k ≡ take from s ++ replicate (length s - from) 0

@@ -10,7 +10,7 @@ use native.Mathlib.Omega.{arith}
 use borrow.Author.Tests.{eq-eqb, ne-eqb}
 use lib.Dec.{T, eqb, eqb→eq, leb, leb→le, le→leb}
 use lib.ListN.{length, getD, set, take, length-append, length-set, List·getD-append, List·getD-eq-default}
-use lib.Seq.{getD-append-add, length-take-le}
+use lib.Seq.{getD-append-add, length-take-le, take-all}
 use Rattle.limits.specs.Machine.{ends, goes}
 use Rattle.hume.specs.Tests.{pick, every}
 use Rattle.hume.specs.Words.{Word, null, ref, link, raw, bits, isValue, boolHeader, intHeader, floatHeader, exnHeader}
@@ -26,6 +26,7 @@ use Rattle.laws.proofs.Tests.{every-at, and-left, and-right, of-true, to-true, 
 use Rattle.laws.proofs.Words.{bits-raw}
 use Rattle.engine.specs.Fits.{Fit}
 use Rattle.engine.specs.Turns.{Bears, core, Holds, halt, Buffers, buffers, Turned, Meets, priced}
+use Rattle.engine.specs.Blocks.{making}
 use Rattle.engine.specs.Outcomes.{valued, wrongly, raised, given, tried, kept, quotient, whole, cutting, settled}
 use Rattle.engine.specs.Outcomes.{results, throws, dealing, dealt, Deals, Fair, cycleTable, Handled}
 use Rattle.engine.specs.declared.Ending.the-variants as ending
@@ -502,12 +503,18 @@ bears-exn l hs e w p m b d q h =
 
 module _ {r : Regs} {st he : List ℕ} {ws hs : List Word} (h : Holds r st he ws hs) (wi or : List ℕ) where
   -- a result in the place of the operands
-  pub give-leads : {lim : Limits} (f : Fit lim r) (cost t k low x y : ℕ) → r .lp ≤ low → low < r .sp
+  pub give-leads : {lim : Limits} (f : Fit lim r) (cost t k low x y : ℕ) → r .lp ≤ low → low ≤ r .sp
       → cost ≡ t + k
       → Leads cost (priced t (results k low x y) (core r ws hs wi or false)) (built r (low + 1) (r .hp + 2)) (take low ws ++ ref (length hs) ∷ []) (hs ++ raw x ∷ raw y ∷ []) wi or
   give-leads f cost t k low x y l m e =
       builds-lead f h wi or t cost k low (r .hp + 2) (take low ws) (raw x ∷ raw y ∷ []) refl e
       (sym (length-take-le low ws (omega (arith, h .sp)))) (omega (arith, f .fp)) (locals-take (r .fp) low ws (omega (arith, f .fp))) refl
+
+  -- on top of all it is what MkBool, MkInt and MkFloat make
+  pub made-on-top : (x y : ℕ) → making x y (core r ws hs wi or false) ≡ results 0 (r .sp) x y (core r ws hs wi or false)
+  made-on-top x y =
+      ap (λ (l : List Word). builds (core r ws hs wi or false) 0 l (raw x ∷ raw y ∷ []))
+      (sym (take-all (r .sp) ws (omega (arith, h .sp))))
 
   -- an exception with no handler
   pub unhandled-stops : (lim : Limits) (P : Program) (t k e w handler entry : ℕ) {b : Buffers} {q : Turn}

@@ -34,19 +34,7 @@ impl Regs {
         requires { ⌜ lim .heap ≤ length (now heap) ⌝ }
         ensures { λ r. ⌜ ((wi or : List ℕ) → Meets lim self (buffers (now (stack .entry)) (now (heap .entry)) wi or) (priced cost (making h c)) r (buffers (now (stack .exit)) (now (heap .exit)) wi or)) ⌝ }
     {
-        let sp = self.sp;
-        let hp = self.hp;
-        let mut next = self;
-        next.sp = sp + 1;
-        next.hp = hp + 2;
-        next.pc = self.pc + 1;
-        let turn = self.charge(lim, cost, next);
-        if turn.go {
-            heap[hp] = h;
-            heap[hp + 1] = c;
-            stack[sp] = 268435456 + hp as u32;
-        }
-        turn
+        self.give(lim, cost, self.sp, h, c, stack, heap)
     }
 
     // "5 MkTuple a, 6 MkCon a fields, tag b [1-a]: field 0 is the top word; each field a reference or None."

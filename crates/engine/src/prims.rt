@@ -353,8 +353,8 @@ impl Regs {
         self.try_raise(b, stack)
     }
 
-    // "result 2 heap words", in the place of the operands
-    fn give(
+    // "result 2 heap words", above the lower words: in the place of operands, or on top of all
+    pub(crate) fn give(
         self,
         lim: Limits,
         cost: usize,
@@ -367,7 +367,7 @@ impl Regs {
         requires { ⌜ Fit lim self ⌝ }
         requires { ⌜ lim .stack ≤ length (now stack) ⌝ }
         requires { ⌜ lim .heap ≤ length (now heap) ⌝ }
-        requires { ⌜ (self .lp ≤ low) × (low < self .sp) ⌝ }
+        requires { ⌜ (self .lp ≤ low) × (low ≤ self .sp) ⌝ }
         ensures { λ r. ⌜ ((t k : ℕ) (wi or : List ℕ) → cost ≡ t + k → Meets lim self (buffers (now (stack .entry)) (now (heap .entry)) wi or) (priced t (results k low h x)) r (buffers (now (stack .exit)) (now (heap .exit)) wi or)) ⌝ }
     {
         let hp = self.hp;

@@ -87,7 +87,8 @@ give-requires c κs =
     let try-any = c .before .before .before .before .before .before .try-any in
     let if1 = c .before .before .before .if1 in
     let if2 = c .before .before .if2 in
-    (start .pre .0, (start .pre .1 .0, (start .pre .1 .1 .0, try-any .ensures .fair .lower (if1 .left) (if2 .left))))
+    let w = try-any .ensures .fair .lower (if1 .left) (if2 .left) in
+    (start .pre .0, (start .pre .1 .0, (start .pre .1 .1 .0, (w .0, omega (arith, w .1)))))
 
 same-length-5 : tie.Need-same-length-5
 same-length-5 c = search needs

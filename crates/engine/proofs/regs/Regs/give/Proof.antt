@@ -56,7 +56,11 @@ mul-stack : tie.Need-mul-stack
 mul-stack c = search needs
 
 slice-write-stack : tie.Need-slice-write-stack
-slice-write-stack c = search needs
+slice-write-stack c =
+    let charge = c .before .charge in
+    let if1 = c .if1 in
+    let start = c .before .before .before .before .before in
+    let p = went-on (charge .ensures) (if1 .taken) in omega (arith, p .depth, start .pre .1 .0)
 
 same-length : tie.Need-same-length
 same-length c = search needs
