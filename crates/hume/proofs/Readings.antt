@@ -6,7 +6,7 @@ use lib.ListN.{replicate}
 use Rattle.hume.specs.Call.{Given}
 use Rattle.hume.proofs.Build.{Set, Sum, sum, image, entered, plain, limits, given}
 use Rattle.hume.proofs.Shown.{counted}
-use Rattle.hume.proofs.Assembly.{mkBool, mkInt, mkFloat, mkNone, mkTuple, push, pop, slide, copy, copyArg, createFrame, pushVar, makeVar, goto, ifTrue, call, returns, callPrim1, callPrim2, raises, startMatches, matchRule, matchedRule, matchNone, matchAvailable, matchInt, matchFloat, unpack, copyInput, consume, maybeConsume, checkOutputs, write, schedule}
+use Rattle.hume.proofs.Assembly.{mkBool, mkInt, mkFloat, mkNone, mkTuple, mkCon, push, pop, slide, copy, copyArg, createFrame, pushVar, makeVar, goto, ifTrue, call, returns, callPrim1, callPrim2, raises, startMatches, matchRule, matchedRule, matchNone, matchAvailable, matchBool, matchInt, matchFloat, matchTuple, matchCon, matchExn, unpack, reorder, copyInput, consume, maybeConsume, checkOutputs, write, schedule}
 
 -- time enough for any of these, and little enough that a wrong machine, which may go round, ends soon
 abbrev run : List ℕ → List ℕ → List ℕ → Given
@@ -100,6 +100,10 @@ abbrev called : List (List ℕ) → ℕ → List ℕ → Given
 called body e l =
     run (image 0 0 255 (entered 0 ∷ rules e l ∷ []) (mkInt 3 ∷ mkInt 4 ∷ call 1 ∷ schedule ∷ body)) [] (0 ∷ 0 ∷ 1 ∷ [])
 
+-- a handler entered at 2, whose rule is at 4
+abbrev handled : List (List ℕ) → Given
+handled c = run (image 0 0 1 (entered 0 ∷ rules 2 (4 ∷ []) ∷ []) c) [] (0 ∷ 0 ∷ [])
+
 unfoldable pub match-rows : List Sum
 match-rows =
     -- mp one off from CopyArg is an error easily made: argument 0 is 4, argument 1 is 3
@@ -129,6 +133,14 @@ match-rows =
     (ends 3 0 4 4 40 5 5 2)
     ∷ sum (code (mkFloat 0 ∷ mkFloat 0x80000000 ∷ callPrim2 14 ∷ ifTrue 4 ∷ schedule ∷ [])) (ends 0 0 4 5 175 2 0 6)
     ∷ sum (code (mkFloat 0x7FC00000 ∷ copy 0 ∷ callPrim2 14 ∷ ifTrue 0 ∷ schedule ∷ [])) (ends 0 0 4 5 175 2 0 4)
+    -- the other kinds: a Bool's payload, a Tuple's size, a Constr's tag and an Exn's number decide
+    ∷ sum (code (mkBool 1 ∷ push 3 ∷ createFrame 0 ∷ matchBool 1 ∷ schedule ∷ [])) (ends 0 0 4 5 50 5 5 2)
+    ∷ sum (code (mkTuple 0 ∷ push 3 ∷ createFrame 0 ∷ matchTuple 0 ∷ schedule ∷ [])) (ends 0 0 4 5 50 5 5 2)
+    ∷ sum (code (matchRule ∷ mkTuple 0 ∷ push 3 ∷ createFrame 0 ∷ matchTuple 1 ∷ schedule ∷ [])) (ends 3 0 4 4 40 5 5 2)
+    ∷ sum (code (mkCon 0 5 ∷ push 3 ∷ createFrame 0 ∷ matchCon 0 5 ∷ schedule ∷ [])) (ends 0 0 4 5 50 5 5 2)
+    ∷ sum (code (matchRule ∷ mkCon 0 5 ∷ push 3 ∷ createFrame 0 ∷ matchCon 0 6 ∷ schedule ∷ [])) (ends 3 0 4 4 40 5 5 2)
+    ∷ sum (handled (mkNone ∷ raises 7 ∷ matchExn 7 ∷ schedule ∷ schedule ∷ [])) (ends 0 0 3 4 40 5 5 3)
+    ∷ sum (handled (mkNone ∷ raises 7 ∷ matchExn 8 ∷ schedule ∷ schedule ∷ [])) (ends 0 0 4 4 40 5 5 3)
     -- MatchNone has no last argument and no last input
     ∷ sum (code (matchNone ∷ matchNone ∷ matchNone ∷ schedule ∷ [])) (ends 0 0 3 4 40 0 0 0)
     -- MatchRule between Call and CreateFrame drops the saved words; locals stay over MatchRule and MatchedRule
@@ -163,6 +175,11 @@ wire-rows =
     ∷ sum
     (boxed (startMatches ∷ matchRule ∷ matchAvailable ∷ matchAvailable ∷ schedule ∷ []) (1 ∷ 4 ∷ []) (1 ∷ 0 ∷ []))
     (ends 0 0 4 2 20 0 0 0)
+    -- Reorder moves the rule at position rp to the end, and nothing with rp at the count
+    ∷ sum (boxed (reorder ∷ startMatches ∷ goto 2 ∷ schedule ∷ []) (2 ∷ 3 ∷ []) (0 ∷ 1 ∷ [])) (ends 0 0 3 3 30 0 0 0)
+    ∷ sum
+    (boxed (matchRule ∷ matchRule ∷ reorder ∷ startMatches ∷ goto 4 ∷ schedule ∷ []) (5 ∷ 4 ∷ []) (0 ∷ 1 ∷ []))
+    (ends 0 0 5 5 50 0 0 0)
     -- Consume of an empty wire is nothing; CopyInput of one is fault 8
     ∷ sum (boxed (consume 1 ∷ maybeConsume 1 ∷ copyInput 1 ∷ schedule ∷ []) (0 ∷ 0 ∷ []) (0 ∷ 1 ∷ [])) (ends 2 8 2 2 20 0 0 0)
     -- reading "available" the wrong way is an error easily made: a full wire blocks, an empty one doesn't

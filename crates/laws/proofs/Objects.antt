@@ -9,7 +9,7 @@ use borrow.Author.Tests.{lt-ltb, le-ltb}
 use lib.Dec.{T}
 use lib.ListN.{length, getD, take, drop, length-append, length-drop, List·getD-append}
 use lib.Seq.{getD-append-seam, getD-append-add, getD-take, getD-drop, length-take-le}
-use Rattle.hume.specs.Words.{Word, null, none, ref, raw, bits, isRef, isNone, isValue, noneHeader, tupleHeader}
+use Rattle.hume.specs.Words.{Word, null, none, ref, raw, bits, isRef, noneHeader, tupleHeader}
 use Rattle.hume.specs.Values.{Value, Values, end, more, count, atomOk, blockOk, good, goods, prefix, prefixes, isNothing, oneValue, placed, placedAll, refers, refersAll, fieldsBy, bodyBy, wordBy, spreadTo, spread}
 use Rattle.laws.specs.Whole.{Whole, Field, Held, none-held, ref-held}
 use Rattle.laws.proofs.Tests.{and-left, and-right, and-both}
@@ -38,11 +38,6 @@ whole-grows {hs} g o =
       | Field.nothing p w e ↦ Field.nothing p w e
       | Field.lower p w q e l (o → ih) ↦ Field.lower p w q e l ih
     ]
-
--- So does a field.
-pub field-grows : {hs : List Word} {p : ℕ} {w : Word} (g : List Word) → Field hs p w → Field (hs ++ g) p w
-field-grows g (Field.nothing p w e) = Field.nothing p w e
-field-grows g (Field.lower p w q e l o) = Field.lower p w q e l (whole-grows g o)
 
 -- So does a value that the heap holds.
 pub held-grows : {hs : List Word} {w : Word} (g : List Word) → Held hs w → Held (hs ++ g) w
@@ -79,15 +74,6 @@ whole-object {hs} (Whole.block p h n l e₁ e₂ ok fs) =
     let b = bits-at (getD hs (p + 1) null) n e₂ in
     isBlock (record { inside = rw b l; ok = rw (a, b) ok; field = λ i k. fs i (rw b at k) })
 
--- A whole object with a header below the Tuple's is a Bool, Int or Float.
-pub whole-atom : {hs : List Word} {p : ℕ} → Whole hs p → bits (getD hs p null) < tupleHeader
-    → T (atomOk (bits (getD hs p null)) (bits (getD hs (p + 1) null)))
-whole-atom {hs} {p} o k = by (whole-object o)
-  where
-    by : Object hs p → T (atomOk (bits (getD hs p null)) (bits (getD hs (p + 1) null)))
-    by (isAtom l ok) = ok
-    by (isBlock b) = absurd (let z = block-header (bits (getD hs p null)) _ (b .ok) .least in omega arith)
-
 -- One with another header is a Tuple, Constr or Exn.
 pub whole-block : {hs : List Word} {p : ℕ} → Whole hs p → tupleHeader ≤ bits (getD hs p null) → Block hs p
 whole-block {hs} {p} o k = by (whole-object o)
@@ -107,18 +93,6 @@ held-field {hs} {w} g (none-held e) = Field.nothing (length hs) w e
 held-field {hs} {w} g (ref-held q e o) =
     let l = whole-inside o in
     Field.lower (length hs) w q e (omega arith) (whole-grows g o)
-
--- A held word is a reference or None.
-pub held-value : {hs : List Word} {w : Word} → Held hs w → T (isValue w)
-unfolding isValue isRef isNone
-held-value (none-held e) = rw e tt
-held-value (ref-held p e o) = rw e tt
-
--- What a held reference refers to is whole.
-pub held-whole : {hs : List Word} {w : Word} → Held hs w → T (isRef w) → Whole hs (w .payload)
-unfolding isRef
-held-whole (none-held e) t = absurd (rw e at t)
-held-whole (ref-held p e o) t = rw e o
 
 -- The fields of a block, taken from the heap in a row, are as many as its size says,
 pub block-fields-length : {hs : List Word} {p : ℕ} → Block hs p
@@ -325,14 +299,6 @@ unfolding spread
 spread-enough {hs} {w} o d k =
     let r = rw (append-nil hs) at (held-reading o .spreads []) in
     r d k ∙ sym (r (suc (w .payload)) (omega arith))
-
--- A longer heap spreads a held word out to the same.
-pub spread-grows : {hs : List Word} {w : Word} (g : List Word) → Held hs w → spread (hs ++ g) w ≡ spread hs w
-unfolding spread
-spread-grows {hs} {w} g o =
-    let r = held-reading o .spreads in
-    let b = suc (w .payload) in
-    r g b (omega arith) ∙ sym (r [] b (omega arith)) ∙ ap (λ (l : List Word). spreadTo b l w) (append-nil hs)
 
 -- What a held word stands for: a good value, which is None only for None's word.
 pub record Stands (hs : List Word) (w : Word) : Type 0 where

@@ -95,11 +95,6 @@ module _ (w : List ℕ) (n i : ℕ) (long : length w ≡ 65 * n) (inside : i < n
       ∙ drop-at before (ws ++ (zeros ++ drop (65 * i + 65) w)) (65 * i + 1) l)
       ∙ take-at ws (zeros ++ drop (65 * i + 65) w) (length ws) refl
 
-  -- It is empty where no word was written.
-  pub setWire-empty : isEmpty (setWire w i ws) i ≡ eqb (length ws) 0
-  unfolding isEmpty
-  setWire-empty = ap (λ (c : ℕ). eqb c 0) setWire-count
-
   padding : take (64 - length ws) (drop (65 * i + 1 + length ws) (setWire w i ws)) ≡ zeros
   padding =
       let before = take (65 * i) w ++ length ws ∷ ws in
@@ -156,11 +151,6 @@ module _ (w : List ℕ) (n i : ℕ) (long : length w ≡ 65 * n) (inside : i < n
     pub setWire-count-other : wireCount (setWire w i ws) j ≡ wireCount w j
     unfolding wireCount
     setWire-count-other = let e : 65 * j ≡ 65 * j + 0 = omega arith in rw e (elsewhere j 0 apart (omega arith))
-
-    -- and whether it is empty,
-    pub setWire-empty-other : isEmpty (setWire w i ws) j ≡ isEmpty w j
-    unfolding isEmpty
-    setWire-empty-other = ap (λ (c : ℕ). eqb c 0) setWire-count-other
 
     part-other : (m c : ℕ) → m + c ≤ 65 → take c (drop (65 * j + m) (setWire w i ws)) ≡ take c (drop (65 * j + m) w)
     part-other m c h =
