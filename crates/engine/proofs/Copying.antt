@@ -9,7 +9,7 @@ use native.Mathlib.Nat.{add-zero, ne-of-gt}
 use native.Mathlib.Numerals.{add-one}
 use lib.Dec.{T, eqb, eqb→eq, T-not, not-T}
 use lib.ListN.{length, getD, set, take, drop, length-append, length-drop, length-map, length-set, take-append-drop}
-use lib.Seq.{sets, set-comm, getD-take, getD-drop, length-take-le, drop-drop, drop-append-seam, append-snoc}
+use lib.Seq.{sets, take-set-le, drop-set-lt, set-comm, getD-take, getD-drop, length-take-le, drop-drop, drop-append-seam, append-snoc}
 use Rattle.limits.specs.Machine.{goes}
 use Rattle.hume.specs.Words.{Word, none, ref, raw, bits, noneHeader, tupleHeader}
 use Rattle.hume.specs.Values.{Value, nothing, atom, block, Values, end, more, count, blockOk, good, goods, prefix, prefixes, placed, placedAll, refers, refersAll, row, first, isNothing, wireCount, wireWords, isEmpty}
@@ -42,6 +42,15 @@ sets-append l i [] b = ap (λ (k : ℕ). sets l k b) (add-zero i)
 sets-append l i (x ∷ a) b =
     let e : i + suc (length a) ≡ suc i + length a = omega arith in
     ap (λ (k : ℕ). sets (sets (set l i x) (suc i) a) k b) e ∙ sets-append (set l i x) (suc i) a b
+
+-- what is before a row, and what is after it
+pub take-sets : (n : ℕ) (l : List ℕ) (i : ℕ) (a : List ℕ) → n ≤ i → take n (sets l i a) ≡ take n l
+take-sets n l i [] h = refl
+take-sets n l i (x ∷ a) h = take-sets n (set l i x) (suc i) a (omega arith) ∙ take-set-le n l i x h
+
+pub drop-sets : (n : ℕ) (l : List ℕ) (i : ℕ) (a : List ℕ) → i + length a ≤ n → drop n (sets l i a) ≡ drop n l
+drop-sets n l i [] h = refl
+drop-sets n l i (x ∷ a) h = drop-sets n (set l i x) (suc i) a (omega arith) ∙ drop-set-lt n l i x (omega arith)
 
 -- a store below a row may come first
 pub set-sets : (l : List ℕ) (m k x : ℕ) (b : List ℕ) → k < m → set (sets l m b) k x ≡ sets (set l k x) m b

@@ -1,8 +1,8 @@
 -- Reading a value from the heap: what the bits of a word, of an object and of a list of fields spread out to.
 use mathlib.Core.Path.{_≡_, refl, sym, ap, _∙_}
 use mathlib.Core.Bool.{Bool, true, false}
-use mathlib.Core.List.{List, [], _∷_, _++_}
-use Prim.Native.Nat.{ℕ, zero, suc, _+_, _-_, _*_, _^_, _≤_, _<_, min}
+use mathlib.Core.List.{List, [], _∷_, _++_, append-assoc, append-nil}
+use Prim.Native.Nat.{ℕ, zero, suc, _+_, _-_, _*_, _^_, _≤_, _<_}
 use native.Mathlib.Omega.{arith}
 use native.Mathlib.Nat.{not-suc-le-zero, le-of-suc-le-suc}
 use native.Mathlib.Numerals.{add-one}
@@ -16,7 +16,7 @@ use Rattle.laws.specs.Whole.{Whole, Field, Held, none-held, ref-held}
 use Rattle.laws.proofs.Words.{none-is}
 use Rattle.laws.proofs.Small.{raw-bits}
 use Rattle.laws.proofs.Objects.{Block, whole-inside, whole-block, field-held, spread-none, spread-enough}
-use Rattle.engine.specs.Copies.{Readable, FieldsReadable, spreads, spreadsAll, CellFits, FieldsFit, Written}
+use Rattle.engine.specs.Copies.{Readable, FieldsReadable, spreads, spreadsAll, Spread}
 use Rattle.engine.specs.Turns.{Bears, Smalls}
 use Rattle.engine.proofs.Copying.{sets-append}
 use Rattle.engine.proofs.Outputs.{none-bits}
@@ -84,7 +84,7 @@ fields-spread hs p q (suc n) l each =
 -- ---- a word, by its bits
 
 module _ {he : List ℕ} {x : ℕ} (k : Readable he x) where
-  pub reads-none : x ≡ 2 ^ 29 → spreads k ≡ noneHeader ∷ []
+  reads-none : x ≡ 2 ^ 29 → spreads k ≡ noneHeader ∷ []
   unfolding spread
   reads-none e =
       let z : k .word ≡ none = none-is (k .word) (none-bits (k .word) (k .small) (sym (k .is) ∙ e)) in
@@ -109,7 +109,7 @@ module _ {he : List ℕ} {x : ℕ} (k : Readable he x) where
           let w : Whole (k .words) (x - 2 ^ 28) = rw s at o in
           record { least = omega arith; word-is = e ∙ ap ref s; whole = w; inside = whole-inside w }
 
-  pub reads-two : (x ≡ 2 ^ 29 → ⊥) → 2 ≤ length (spreads k)
+  reads-two : (x ≡ 2 ^ 29 → ⊥) → 2 ≤ length (spreads k)
   reads-two n = rw (reads-ref n .word-is) (spread-two (k .words) (x - 2 ^ 28))
 
   pub reads-inside : (x ≡ 2 ^ 29 → ⊥) → x - 2 ^ 28 + 2 ≤ length he
@@ -133,7 +133,7 @@ module _ {he : List ℕ} {x : ℕ} (k : Readable he x) where
     second-same =
         let a = reads-ref n .inside in ap bits (inside-same (k .words) (p + 1) (omega arith)) ∙ sym second-is
 
-    pub reads-atom : getD he p 0 < tupleHeader → spreads k ≡ getD he p 0 ∷ getD he (p + 1) 0 ∷ []
+    reads-atom : getD he p 0 < tupleHeader → spreads k ≡ getD he p 0 ∷ getD he (p + 1) 0 ∷ []
     unfolding spread spreadTo isRef wordBy bodyBy
     reads-atom a =
         ap (λ (w : Word). spread (k .words) w) (reads-ref n .word-is)
@@ -153,7 +153,7 @@ module _ {he : List ℕ} {x : ℕ} (k : Readable he x) where
           held = λ i h. field-held (b .field i (rw second-is at h));
         }
 
-    pub reads-block : (a : tupleHeader ≤ getD he p 0)
+    reads-block : (a : tupleHeader ≤ getD he p 0)
         → spreads k ≡ getD he p 0 ∷ getD he (p + 1) 0 ∷ spreadsAll (reads-fields a)
     unfolding spread spreadTo isRef wordBy bodyBy reads-fields
     reads-block a =
@@ -175,7 +175,7 @@ fields-split f hs q n m h e =
     ∙ ap (λ (x : ℕ). f (getD hs q null) ++ fieldsBy f hs x m) (sym (add-one q))
 
 module _ {he : List ℕ} {q n : ℕ} (k : FieldsReadable he q n) where
-  pub reads-end : n ≡ 0 → spreadsAll k ≡ []
+  reads-end : n ≡ 0 → spreadsAll k ≡ []
   unfolding fieldsBy
   reads-end e = rw e refl
 
@@ -197,7 +197,7 @@ module _ {he : List ℕ} {q n : ℕ} (k : FieldsReadable he q n) where
           is = k .bears .get q (omega (arith, z));
         }
 
-    pub reads-later : FieldsReadable he (q + 1) (n - 1)
+    reads-later : FieldsReadable he (q + 1) (n - 1)
     reads-later =
         let a = k .inside in
         record {
@@ -208,162 +208,130 @@ module _ {he : List ℕ} {q n : ℕ} (k : FieldsReadable he q n) where
           held = λ i h. let e : q + 1 + i ≡ q + (i + 1) = omega arith in rw e (k .held (i + 1) (omega arith));
         }
 
-    pub reads-both : spreadsAll k ≡ spreads reads-first ++ spreadsAll reads-later
+    reads-both : spreadsAll k ≡ spreads reads-first ++ spreadsAll reads-later
     unfolding reads-first reads-later
     reads-both =
         let a = k .inside in
         let e : n ≡ suc (n - 1) = omega (arith, z) in
         fields-split (spread (k .words)) (k .words) q n (n - 1) (omega (arith, z)) e
 
--- ---- how many words there are, up to 65
+-- ---- the words, spread out
 
-module _ {he : List ℕ} {x : ℕ} (k : Readable he x) (at : ℕ) where
-  pub count-none : at ≤ 64 → x ≡ 2 ^ 29 → at + 1 ≡ min (at + length (spreads k)) 65
-  count-none l e = rw (reads-none k e) (omega arith)
+spread-all : (ws : List ℕ) (at end : ℕ) (w : List ℕ) → at + length ws ≤ end → Spread ws at end w (at + length ws) (sets w at ws)
+spread-all ws at end w h = record { written = ws; inside = h; next-is = omega arith; whole = λ z. refl; wires-is = refl }
 
-  pub count-over : (x ≡ 2 ^ 29 → ⊥) → 63 ≤ at → 65 ≡ min (at + length (spreads k)) 65
-  count-over n l = let a = reads-two k n in omega arith
+-- there is no room for the last of them
+spread-part : (ws done : List ℕ) (at end : ℕ) (w : List ℕ) → at + length done ≤ end → end < at + length ws
+    → Spread ws at end w (end + 1) (sets w at done)
+spread-part ws done at end w i h =
+    record { written = done; inside = i; next-is = omega arith; whole = λ z. absurd (omega arith); wires-is = refl }
 
-  module _ (n : x ≡ 2 ^ 29 → ⊥) where
-    pub count-atom : getD he (x - 2 ^ 28) 0 < tupleHeader → at < 63 → at + 2 ≡ min (at + length (spreads k)) 65
-    count-atom a l = rw (reads-atom k n a) (omega arith)
+-- the index after them is not below `at`
+module _ {ws : List ℕ} {at end : ℕ} {w : List ℕ} {r : ℕ} {w' : List ℕ} (h : at ≤ end) (s : Spread ws at end w r w') where
+  pub spread-least : at ≤ r
+  spread-least = omega (arith, s .next-is)
 
-    pub count-block : tupleHeader ≤ getD he (x - 2 ^ 28) 0 → {r : ℕ}
-        → ((f : FieldsReadable he (x - 2 ^ 28 + 2) (getD he (x - 2 ^ 28 + 1) 0)) → r ≡ min (at + 2 + length (spreadsAll f)) 65)
-        → r ≡ min (at + length (spreads k)) 65
-    count-block a {r} c =
-        let f = reads-fields k n a in
-        let e : r ≡ min (at + 2 + length (spreadsAll f)) 65 = c f in
-        let s : at + 2 + length (spreadsAll f) ≡ at + length (spreads k) =
-        rw (reads-block k n a) (omega arith) in
-        e ∙ ap (λ (z : ℕ). min z 65) s
+  pub spread-from : Spread ws at end w (at + (r - at)) w'
+  spread-from = let e : at + (r - at) ≡ r = omega (arith, s .next-is) in rw e s
 
-module _ {he : List ℕ} {q n : ℕ} (k : FieldsReadable he q n) (at : ℕ) where
-  pub count-end : at ≤ 64 → n ≡ 0 → at ≡ min (at + length (spreadsAll k)) 65
-  count-end l e = rw (reads-end k e) (omega arith)
+module _ {he : List ℕ} {x : ℕ} (k : Readable he x) {at end : ℕ} (w : List ℕ) where
+  pub none-over : at ≤ end → end ≤ at → Spread (spreads k) at end w (end + 1) w
+  none-over i h =
+      let s = spread-some (k .words) (k .word) in
+      spread-part (spreads k) [] at end w (omega arith) (omega arith)
 
-  module _ (z : n ≡ 0 → ⊥) {next : ℕ}
-      (c : (f : Readable he (getD he q 0)) → next ≡ min (at + length (spreads f)) 65) where
-    long : length (spreadsAll k) ≡ length (spreads (reads-first k z)) + length (spreadsAll (reads-later k z))
-    long =
-        ap (λ (l : List ℕ). length l) (reads-both k z)
-        ∙ length-append (spreads (reads-first k z)) (spreadsAll (reads-later k z))
-
-    -- each cell counts one at least
-    pub count-falls : next ≤ 64 → at < next
-    count-falls l =
-        let f = reads-first k z in
-        let e = c f in
-        let s = spread-some (f .words) (f .word) in
-        omega arith
-
-    pub count-stops : 64 < next → 65 ≡ min (at + length (spreadsAll k)) 65
-    count-stops l = let e = c (reads-first k z) in let a = long in omega arith
-
-    pub count-both : next ≤ 64 → {r : ℕ}
-        → ((f : FieldsReadable he (q + 1) (n - 1)) → r ≡ min (next + length (spreadsAll f)) 65)
-        → r ≡ min (at + length (spreadsAll k)) 65
-    count-both l {r} d =
-        let e = c (reads-first k z) in
-        let a = long in
-        let b : r ≡ min (next + length (spreadsAll (reads-later k z))) 65 = d (reads-later k z) in
-        omega arith
-
--- ---- the words, written
-
-module _ {he : List ℕ} {x at room : ℕ} (c : CellFits he x at room) where
-  pub fits-one : at < room
-  fits-one =
-      let a = c .fits in
-      let b = spread-some (c .reading .words) (c .reading .word) in
-      omega arith
-
-  pub fits-two : (x ≡ 2 ^ 29 → ⊥) → at + 2 ≤ room
-  fits-two n = let a = c .fits in let b = reads-two (c .reading) n in omega arith
-
-  pub write-none : x ≡ 2 ^ 29 → (w : List ℕ) → Written (spreads (c .reading)) at w (at + 1) (set w at noneHeader)
-  write-none e w =
-      rw (reads-none (c .reading) e) (record { next-is = refl; wires-is = refl })
+  pub none-spread : at < end → x ≡ 2 ^ 29 → Spread (spreads k) at end w (at + 1) (set w at noneHeader)
+  none-spread h e = rw (reads-none k e) (spread-all (noneHeader ∷ []) at end w (omega arith))
 
   module _ (n : x ≡ 2 ^ 29 → ⊥) where
-    pub write-atom : getD he (x - 2 ^ 28) 0 < tupleHeader → (w : List ℕ)
-        → Written (spreads (c .reading)) at w (at + 2)
-        (set (set w at (getD he (x - 2 ^ 28) 0)) (at + 1) (getD he (x - 2 ^ 28 + 1) 0))
-    write-atom a w =
-        rw (reads-atom (c .reading) n a) (record { next-is = refl; wires-is = rw add-one refl })
+    pub two-over : at ≤ end → end < at + 2 → Spread (spreads k) at end w (end + 1) w
+    two-over i h = let s = reads-two k n in spread-part (spreads k) [] at end w (omega arith) (omega arith)
 
-    pub fields-fit : (room₁ : ℕ) → room₁ ≡ room → tupleHeader ≤ getD he (x - 2 ^ 28) 0
-        → FieldsFit he (x - 2 ^ 28 + 2) (getD he (x - 2 ^ 28 + 1) 0) (at + 2) room₁
-    fields-fit room₁ s a =
-        let f : at + length (spreads (c .reading)) ≤ room = c .fits in
-        let g = rw (reads-block (c .reading) n a) at f in
-        record { reading = reads-fields (c .reading) n a; fits = omega arith }
+    pub atom-spread : getD he (x - 2 ^ 28) 0 < tupleHeader → at + 2 ≤ end → {w' : List ℕ}
+        → w' ≡ set (set w at (getD he (x - 2 ^ 28) 0)) (at + 1) (getD he (x - 2 ^ 28 + 1) 0)
+        → Spread (spreads k) at end w (at + 2) w'
+    atom-spread a h e =
+        rw (e, add-one at, reads-atom k n a)
+        (spread-all (getD he (x - 2 ^ 28) 0 ∷ getD he (x - 2 ^ 28 + 1) 0 ∷ []) at end w (omega arith))
 
-    pub write-block : {room₁ next : ℕ} {w w' : List ℕ} → room₁ ≡ room → tupleHeader ≤ getD he (x - 2 ^ 28) 0
-        → ((f : FieldsFit he (x - 2 ^ 28 + 2) (getD he (x - 2 ^ 28 + 1) 0) (at + 2) room₁)
-        → Written (spreadsAll (f .reading)) (at + 2)
-        (set (set w at (getD he (x - 2 ^ 28) 0)) (at + 1) (getD he (x - 2 ^ 28 + 1) 0)) next w')
-        → Written (spreads (c .reading)) at w next w'
-    unfolding fields-fit
-    write-block {room₁} {next} {w} {w'} s a d =
-        let g = d (fields-fit room₁ s a) in
-        let two : at + 2 ≡ suc (suc at) = omega arith in
-        rw (reads-block (c .reading) n a)
+-- ---- a block, field by field
+
+-- Of the block k the fields from the place q on, n of them, are still to come: the words before them are on the wires up to
+-- the index `out`.
+pub record Partly {he : List ℕ} {x : ℕ} (k : Readable he x) (q n at : ℕ) (w : List ℕ) (out : ℕ) (w' : List ℕ) : Type 0 where
+  pub rest : FieldsReadable he q n
+  pub done : List ℕ
+  pub out-is : out ≡ at + length done
+  pub wires-is : w' ≡ sets w at done
+  pub both : spreads k ≡ done ++ spreadsAll rest
+
+-- none of them is written yet
+pub partly-none : {he : List ℕ} {x : ℕ} (k : Readable he x) → (x ≡ 2 ^ 29 → ⊥) → tupleHeader ≤ getD he (x - 2 ^ 28) 0
+    → {q n at : ℕ} {w w' : List ℕ} → q ≡ x - 2 ^ 28 + 2 → n ≡ getD he (x - 2 ^ 28 + 1) 0
+    → w' ≡ set (set w at (getD he (x - 2 ^ 28) 0)) (at + 1) (getD he (x - 2 ^ 28 + 1) 0)
+    → Partly k q n at w (at + 2) w'
+partly-none {he} {x} k o a {q} {n} {at} {w} {w'} s t e =
+    rw (s, t)
+    (record {
+      rest = reads-fields k o a;
+      done = getD he (x - 2 ^ 28) 0 ∷ getD he (x - 2 ^ 28 + 1) 0 ∷ [];
+      out-is = refl;
+      wires-is = e ∙ rw (add-one at) refl;
+      both = reads-block k o a;
+    })
+
+module _ {he : List ℕ} {x : ℕ} {k : Readable he x} {q n at : ℕ} {w : List ℕ} {out : ℕ} {w' : List ℕ}
+    (p : Partly k q n at w out w') where
+  -- all of them are
+  pub partly-all : {end : ℕ} → n ≡ 0 → out ≤ end → Spread (spreads k) at end w out w'
+  partly-all {end} z h =
+      let e : spreads k ≡ p .done =
+      p .both ∙ ap (λ (l : List ℕ). p .done ++ l) (reads-end (p .rest) z) ∙ append-nil (p .done) in
+      rw (e, p .wires-is, p .out-is) (spread-all (p .done) at end w (omega (arith, p .out-is)))
+
+  module _ (z : n ≡ 0 → ⊥) {end next : ℕ} {w₁ : List ℕ}
+      (c : (f : Readable he (getD he q 0)) → Spread (spreads f) out end w' next w₁) where
+    first : Spread (spreads (reads-first (p .rest) z)) out end w' next w₁
+    first = c (reads-first (p .rest) z)
+
+    -- the words of one field more
+    abbrev more : List ℕ
+    more = p .done ++ first .written
+
+    more-is : w₁ ≡ sets w at more
+    more-is =
+        first .wires-is
+        ∙ ap (λ (l : List ℕ). sets l out (first .written)) (p .wires-is)
+        ∙ ap (λ (i : ℕ). sets (sets w at (p .done)) i (first .written)) (p .out-is)
+        ∙ sets-append w at (p .done) (first .written)
+
+    more-long : at + length more ≡ out + length (first .written)
+    more-long = let e = length-append (p .done) (first .written) in omega (arith, p .out-is)
+
+    split : spreads k ≡ p .done ++ (spreads (reads-first (p .rest) z) ++ spreadsAll (reads-later (p .rest) z))
+    split = p .both ∙ ap (λ (l : List ℕ). p .done ++ l) (reads-both (p .rest) z)
+
+    -- it doesn't end in time
+    pub partly-over : end < next → Spread (spreads k) at end w (end + 1) w₁
+    partly-over h =
+        let a = spreads (reads-first (p .rest) z) in
+        let b = spreadsAll (reads-later (p .rest) z) in
+        let e = ap (λ (l : List ℕ). length l) split ∙ length-append (p .done) (a ++ b) in
+        let f = length-append a b in
+        rw more-is
+        (spread-part (spreads k) more at end w (let m = more-long in omega (arith, first .inside))
+        (omega (arith, first .next-is, p .out-is)))
+
+    pub partly-more : {q' n' : ℕ} → q' ≡ q + 1 → n' ≡ n - 1 → next ≤ end → Partly k q' n' at w next w₁
+    partly-more {q'} {n'} s t h =
+        let a = spreads (reads-first (p .rest) z) in
+        let b = spreadsAll (reads-later (p .rest) z) in
+        let e : first .written ≡ a = first .whole (omega (arith, first .next-is)) in
+        rw (s, t)
         (record {
-          next-is = g .next-is ∙ omega arith;
-          wires-is = g .wires-is ∙ rw (two, add-one) refl;
+          rest = reads-later (p .rest) z;
+          done = more;
+          out-is = (let l = ap (λ (y : List ℕ). length y) e in omega (arith, first .next-is)) ∙ sym more-long;
+          wires-is = more-is;
+          both = split ∙ sym (append-assoc (p .done) a b) ∙ rw e refl;
         })
-
-module _ {he : List ℕ} {q n at room : ℕ} (c : FieldsFit he q n at room) where
-  pub write-end : n ≡ 0 → (w : List ℕ) → Written (spreadsAll (c .reading)) at w at w
-  write-end e w = rw (reads-end (c .reading) e) (record { next-is = omega arith; wires-is = refl })
-
-  module _ (z : n ≡ 0 → ⊥) where
-    both-long : length (spreadsAll (c .reading))
-        ≡ length (spreads (reads-first (c .reading) z)) + length (spreadsAll (reads-later (c .reading) z))
-    both-long =
-        ap (λ (l : List ℕ). length l) (reads-both (c .reading) z)
-        ∙ length-append (spreads (reads-first (c .reading) z)) (spreadsAll (reads-later (c .reading) z))
-
-    pub first-fits : CellFits he (getD he q 0) at room
-    first-fits =
-        let a = both-long in let b = c .fits in record { reading = reads-first (c .reading) z; fits = omega arith }
-
-    module _ {next : ℕ} {w w₁ : List ℕ}
-        (d : (f : CellFits he (getD he q 0) at room) → Written (spreads (f .reading)) at w next w₁) where
-      cell-written : Written (spreads (reads-first (c .reading) z)) at w next w₁
-      unfolding first-fits
-      cell-written = d first-fits
-
-      pub write-falls : at < next
-      write-falls =
-          let a = cell-written .next-is in
-          let f = reads-first (c .reading) z in
-          let b = spread-some (f .words) (f .word) in
-          omega arith
-
-      pub later-fits : (room₁ : ℕ) → room₁ ≡ room → FieldsFit he (q + 1) (n - 1) next room₁
-      later-fits room₁ s =
-          let a = both-long in
-          let b = c .fits in
-          let e = cell-written .next-is in
-          record { reading = reads-later (c .reading) z; fits = omega arith }
-
-      pub write-both : {room₁ next₂ : ℕ} {w₂ : List ℕ} → room₁ ≡ room
-          → ((f : FieldsFit he (q + 1) (n - 1) next room₁) → Written (spreadsAll (f .reading)) next w₁ next₂ w₂)
-          → Written (spreadsAll (c .reading)) at w next₂ w₂
-      unfolding later-fits
-      write-both {room₁} {next₂} {w₂} s g =
-          let one = cell-written in
-          let two = g (later-fits room₁ s) in
-          let a = spreads (reads-first (c .reading) z) in
-          let b = spreadsAll (reads-later (c .reading) z) in
-          record {
-            next-is = let l = both-long in omega (arith, one .next-is, two .next-is);
-            wires-is =
-                two .wires-is
-                ∙ ap (λ (l : List ℕ). sets l next b) (one .wires-is)
-                ∙ ap (λ (y : ℕ). sets (sets w at a) y b) (one .next-is)
-                ∙ sets-append w at a b
-                ∙ ap (λ (l : List ℕ). sets w at l) (sym (reads-both (c .reading) z));
-          }

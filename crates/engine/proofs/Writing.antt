@@ -1,31 +1,31 @@
 -- What Write leads to.
 use mathlib.Core.Path.{_≡_, refl, sym, ap, _∙_, subst}
 use mathlib.Core.Bool.{Bool, true, false}
-use mathlib.Core.List.{List, _∷_, _++_, append-assoc}
+use mathlib.Core.List.{List, [], _∷_, _++_, append-assoc}
 use Prim.Native.Nat.{ℕ, suc, _+_, _-_, _*_, _^_, _≤_, _<_, min}
 use native.Mathlib.Omega.{arith}
 use native.Mathlib.Numerals.{add-one}
 use lib.Dec.{T, leb, eqb, leb→le, le→leb, eqb→eq}
 use lib.ListN.{length, getD, set, take, drop, replicate, length-append, length-drop, length-replicate, getD-replicate, take-append-drop}
-use lib.Seq.{sets, sets-eq, getD-append-add, getD-take, getD-drop, length-take-le, drop-drop, ext-getD}
-use Rattle.limits.specs.Machine.{ends}
+use lib.Seq.{sets, paste, sets-eq, set-getD, getD-append-add, getD-take, getD-drop, length-take-le, drop-drop, ext-getD}
+use Rattle.limits.specs.Machine.{Act, ends}
 use Rattle.hume.specs.Tests.{pick, all}
 use Rattle.hume.specs.Words.{Word, null, link, raw, bits, isRef, isNone, isValue}
 use Rattle.hume.specs.Image.{Program}
 use Rattle.hume.specs.Values.{spread, wireCount, isEmpty, setWire, wireOk}
-use Rattle.hume.specs.State.{State, fault, Deed, locals, values, need, rewires, below, without}
+use Rattle.hume.specs.State.{State, End, fault, Deed, locals, values, need, rewires, below, without}
 use Rattle.hume.specs.Instructions.{outputAt, Write}
 use Rattle.laws.specs.Sizes.{Small}
 use Rattle.laws.specs.Accepted.{WiresFit}
 use Rattle.laws.specs.Whole.{Held, none-held, ref-held}
 use Rattle.reach.specs.Sound.{Plain, Frames, Sound}
-use Rattle.laws.proofs.Tests.{to-true, of-true, and-left, and-right, eqb-of, pick-true, pick-false, all-at}
+use Rattle.laws.proofs.Tests.{of-true, and-left, and-right, eqb-of, pick-true, pick-false, all-at}
 use Rattle.laws.proofs.Words.{bits-raw}
 use Rattle.laws.proofs.Small.{small-raw, raw-bits}
 use Rattle.laws.proofs.Deeds.{need-yes, need-no}
 use Rattle.engine.specs.Fits.{Fit}
-use Rattle.engine.specs.Copies.{WireFits, Readable, CellFits, Offered, room, unless, roomOf, TopHeld}
-use Rattle.engine.specs.Turns.{Smalls, core, Holds, halt, Buffers, Turned, priced}
+use Rattle.engine.specs.Copies.{WireFits, Readable, Spread, Offered, room, unless, roomOf, TopHeld}
+use Rattle.engine.specs.Turns.{Smalls, core, Holds, halt, Buffers, buffers, Turned, priced}
 use Rattle.engine.specs.declared.Ending.the-variants as ending
 use Rattle.engine.specs.declared.regs.Limits.{Limits}
 use Rattle.engine.specs.declared.regs.Regs.{Regs}
@@ -34,10 +34,10 @@ use Rattle.engine.specs.declared.wiring.Room.{Room}
 use Rattle.engine.proofs.Turning.{Leads, stops, values-are, reads-below}
 use Rattle.engine.proofs.Areas.{locals-take}
 use Rattle.engine.proofs.Moving.{stacked}
-use Rattle.engine.proofs.Copying.{set-sets, wire-fits}
+use Rattle.engine.proofs.Copying.{take-sets, drop-sets, set-sets, wire-fits}
 use Rattle.engine.proofs.WordKinds.{not-so}
 use Rattle.engine.proofs.Reading.{bears-one, spread-some}
-use Rattle.engine.proofs.Outputs.{lead-wired, none-bits, bits-none}
+use Rattle.engine.proofs.Outputs.{cleared, lead-wired, none-bits, bits-none}
 
 -- ---- words on an empty wire
 
@@ -104,6 +104,20 @@ module _ {w : List ℕ} {o : ℕ} (f : WireFits w o) where
         ∙ sets-eq (length ws ∷ ws) w (65 * o) (omega arith)
         ∙ ap (λ (l : List ℕ). take (65 * o) w ++ (length ws ∷ ws) ++ l) (rest-of (length ws) h)
         ∙ simp append-assoc
+
+    -- they are taken back
+    pub wire-back : {w' : List ℕ} (ws : List ℕ) → length ws ≤ 64 → w' ≡ sets w (65 * o + 1) ws
+        → paste w' (65 * o) (replicate 65 0) 65 ≡ w
+    wire-back {w'} ws h s =
+        let a : take (65 * o) w' ≡ take (65 * o) w = rw s (take-sets (65 * o) w (65 * o + 1) ws (omega arith)) in
+        let b : drop (65 * o + 65) w' ≡ drop (65 * o + 65) w =
+        rw s (drop-sets (65 * o + 65) w (65 * o + 1) ws (omega arith)) in
+        ap (λ (l : List ℕ). l ++ replicate 65 0 ++ drop (65 * o + 65) w') a
+        ∙ ap (λ (l : List ℕ). take (65 * o) w ++ replicate 65 0 ++ l) b
+        ∙ cleared w o
+        ∙ sym (wire-written [] (omega arith))
+        ∙ ap (λ (x : ℕ). set w (65 * o) x) (sym e)
+        ∙ set-getD w (65 * o) 0
 
 -- ---- the word on top
 
@@ -198,7 +212,7 @@ module _ {he : List ℕ} {x : ℕ} (k : Offered he x) (c : ℕ) where
       unfolding roomOf
       room-full z = sym (some _ ∙ pick-false (eqb c 0) _ _ (λ t. z (eqb→eq c 0 t)))
 
-      module _ (z : c ≡ 0) {n : ℕ} (long : n ≡ min (0 + length (spread (k .words) (k .word))) 65) where
+      module _ (z : c ≡ 0) {n : ℕ} (long : n ≡ min (length (spread (k .words) (k .word))) 65) where
         pub room-over : 64 < n → Is (room 6 0)
         unfolding roomOf
         room-over l =
@@ -238,23 +252,29 @@ tests-as true false true false n l f w w' = refl
 tests-as true false true true n l f w w' =
     ap f (sym (pick-false (eqb n 0) w w' (λ t. let e : n ≡ 0 = eqb→eq n 0 t in omega arith)))
 
-record Passed (a d g : Bool) (m n : ℕ) : Type 0 where
-  value : T a
+record Passed (d g : Bool) (m n : ℕ) : Type 0 where
   empty : T d
   few : T g
   long : m ≡ n
 
-tests-pass : (a b d g : Bool) (n : ℕ) → (rooms a b d g n .n ≡ 0 → ⊥) → Passed a d g (rooms a b d g n .n) n
+tests-pass : (a b d g : Bool) (n : ℕ) → (rooms a b d g n .n ≡ 0 → ⊥) → Passed d g (rooms a b d g n .n) n
 unfolding pick
 tests-pass false b d g n k = absurd (k refl)
 tests-pass true true d g n k = absurd (k refl)
 tests-pass true false false g n k = absurd (k refl)
 tests-pass true false true false n k = absurd (k refl)
-tests-pass true false true true n k = record { value = tt; empty = tt; few = tt; long = refl }
+tests-pass true false true true n k = record { empty = tt; few = tt; long = refl }
+
+tests-fail : (a b d g : Bool) (n : ℕ) → (rooms a b d g n .fault ≡ 0 → ⊥) → rooms a b d g n .n ≡ 0
+unfolding pick
+tests-fail false b d g n k = refl
+tests-fail true true d g n k = refl
+tests-fail true false false g n k = refl
+tests-fail true false true false n k = refl
+tests-fail true false true true n k = absurd (k refl)
 
 -- words are written only to an empty wire
 pub record Roomy (hs : List Word) (v : Word) (c n : ℕ) : Type 0 where
-  pub value : isValue v ≡ true
   pub empty : c ≡ 0
   pub few : length (spread hs v) ≤ 64
   pub long : n ≡ length (spread hs v)
@@ -263,30 +283,64 @@ pub roomy : {hs : List Word} {v : Word} {c : ℕ} {t : Room} → t ≡ roomOf hs
 unfolding roomOf
 roomy {hs} {v} {c} {t} e k =
     let m = length (spread hs v) in
-    let p : Passed (isValue v) (eqb c 0) (leb m 64) (t .n) m =
+    let p : Passed (eqb c 0) (leb m 64) (t .n) m =
     rw e (tests-pass (isValue v) (isNone v) (eqb c 0) (leb m 64) m (rw e at k)) in
-    record { value = to-true (p .value); empty = eqb→eq c 0 (p .empty); few = leb→le m 64 (p .few); long = p .long }
+    record { empty = eqb→eq c 0 (p .empty); few = leb→le m 64 (p .few); long = p .long }
 
--- so there is room on the wire o
-abbrev pub cell-fits : {he w : List ℕ} {x o n : ℕ} (k : Offered he x) → WireFits w o
-    → Roomy (k .words) (k .word) (getD w (65 * o) 0) n → CellFits he x (65 * o + 1) (length w)
-cell-fits k f y =
-    record { reading = offered-reads k (y .value); fits = let m = y .few in let i = wire-inside f in omega arith }
+-- none with a fault
+pub faulty : (hs : List Word) (v : Word) (c : ℕ) {t : Room} → t ≡ roomOf hs v c → (t .fault ≡ 0 → ⊥) → t .n ≡ 0
+unfolding roomOf
+faulty hs v c {t} e k =
+    let m = length (spread hs v) in rw e (tests-fail (isValue v) (isNone v) (eqb c 0) (leb m 64) m (rw e at k))
 
--- what is there after: the words ws, or what was there if n is 0
+-- ---- what is on the wires after
+
+-- what was there if n is 0, else w'
+pub put-none : {n : ℕ} (w w' : List ℕ) → n ≡ 0 → pick (eqb n 0) w w' ≡ w
+put-none {n} w w' z = pick-true (eqb n 0) w w' (eqb-of n 0 z)
+
+put-some : {n : ℕ} (w w' : List ℕ) → (n ≡ 0 → ⊥) → pick (eqb n 0) w w' ≡ w'
+put-some {n} w w' z = pick-false (eqb n 0) w w' (λ t. z (eqb→eq n 0 t))
+
+-- the words are spread out on the wire at the index `at`
+module _ (at n : ℕ) {ws w w' : List ℕ} (s : Spread ws (at + 1) (at + 65) w (at + 1 + n) w') where
+  pub spread-long : n ≡ min (length ws) 65
+  spread-long = omega (arith, s .next-is)
+
+  pub spread-few : length (s .written) ≤ 64
+  spread-few = omega (arith, s .inside)
+
+  pub spread-put : 1 ≤ length ws → n ≤ 64 → w' ≡ pick (eqb n 0) w (sets w (at + 1) ws)
+  spread-put l h =
+      let e = s .whole (omega (arith, s .next-is)) in
+      s .wires-is
+      ∙ ap (λ (x : List ℕ). sets w (at + 1) x) e
+      ∙ sym (put-some w (sets w (at + 1) ws) (λ (z : n ≡ 0). omega (arith, s .next-is)))
+
+-- the wire o with the words ws, or what was there if n is 0
 abbrev put : List ℕ → ℕ → ℕ → List ℕ → List ℕ
 put w o n ws = pick (eqb n 0) w (setWire w o ws)
 
-pub put-none : {w : List ℕ} {n : ℕ} (o : ℕ) (ws : List ℕ) → n ≡ 0 → w ≡ put w o n ws
-put-none {w} {n} o ws z = sym (pick-true (eqb n 0) w (setWire w o ws) (eqb-of n 0 z))
+-- their count comes to them, or they are taken back
+module _ {w w' : List ℕ} {o n : ℕ} {hs : List Word} {v : Word} (f : WireFits w o) (y : Roomy hs v (getD w (65 * o) 0) n)
+    (z : n ≡ 0 → ⊥) (s : w' ≡ pick (eqb n 0) w (sets w (65 * o + 1) (spread hs v))) where
+  words-on : w' ≡ sets w (65 * o + 1) (spread hs v)
+  words-on = s ∙ put-some w (sets w (65 * o + 1) (spread hs v)) z
 
-pub put-some : {w w' : List ℕ} {o n : ℕ} {hs : List Word} {v : Word} → WireFits w o → Roomy hs v (getD w (65 * o) 0) n
-    → (n ≡ 0 → ⊥) → w' ≡ sets w (65 * o + 1) (spread hs v) → set w' (65 * o) n ≡ put w o n (spread hs v)
-put-some {w} {w'} {o} {n} {hs} {v} f y z s =
-    rw (s, y .long) (wire-written f (y .empty) (spread hs v) (y .few))
-    ∙ sym (pick-false (eqb n 0) w (setWire w o (spread hs v)) (λ t. z (eqb→eq n 0 t)))
+  pub room-taken : set w' (65 * o) n ≡ put w o n (spread hs v)
+  room-taken =
+      rw (words-on, y .long) (wire-written f (y .empty) (spread hs v) (y .few))
+      ∙ sym (put-some w (setWire w o (spread hs v)) z)
+
+  pub room-back : paste w' (65 * o) (replicate 65 0) 65 ≡ w
+  room-back = wire-back f (y .empty) (spread hs v) (y .few) words-on
 
 -- ---- what a write leads to
+
+-- the wires are as they were
+pub still : {lim : Limits} {r : Regs} {b : Buffers} {o : Act State End} {q : Turn} {st he w w' or : List ℕ} → w' ≡ w
+    → Turned lim r b o q (buffers st he w or) → Turned lim r b o q (buffers st he w' or)
+still e t = rw e t
 
 module _ {lim : Limits} {r : Regs} (f : Fit lim r) {st he : List ℕ} {ws hs : List Word} (h : Holds r st he ws hs)
     (wi or : List ℕ) where

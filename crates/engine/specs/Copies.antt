@@ -2,7 +2,7 @@
 use mathlib.Core.Path.{_≡_}
 use mathlib.Core.Bool.{Bool}
 use mathlib.Core.List.{List, _++_, map}
-use Prim.Native.Nat.{ℕ, _+_, _-_, _*_, _^_, _≤_, _<_}
+use Prim.Native.Nat.{ℕ, _+_, _-_, _*_, _^_, _≤_, _<_, min}
 use lib.Dec.{T, leb, eqb}
 use lib.ListN.{length, getD, drop}
 use lib.Seq.{sets}
@@ -108,19 +108,14 @@ spreads k = spread (k .words) (k .word)
 abbrev pub spreadsAll : {he : List ℕ} {q n : ℕ} → FieldsReadable he q n → List ℕ
 spreadsAll {he} {q} {n} k = fieldsBy (spread (k .words)) (k .words) q n
 
--- There is room for the words that it spreads out to, from the index `at` on.
-pub record CellFits (he : List ℕ) (x at room : ℕ) : Type 0 where
-  pub reading : Readable he x
-  pub fits : at + length (spreads reading) ≤ room
-
-pub record FieldsFit (he : List ℕ) (q n at room : ℕ) : Type 0 where
-  pub reading : FieldsReadable he q n
-  pub fits : at + length (spreadsAll reading) ≤ room
-
--- The words ws are written from there on: the index after them, and the wires.
-pub record Written (ws : List ℕ) (at : ℕ) (w : List ℕ) (next : ℕ) (w' : List ℕ) : Type 0 where
-  pub next-is : next ≡ at + length ws
-  pub wires-is : w' ≡ sets w at ws
+-- The words ws are spread from the index `at` on if they end at `end` or before: r is the index after them, or end + 1. Of
+-- words that don't, some may have been written, none of them at `end` or after.
+pub record Spread (ws : List ℕ) (at end : ℕ) (w : List ℕ) (r : ℕ) (w' : List ℕ) : Type 0 where
+  pub written : List ℕ
+  pub inside : at + length written ≤ end
+  pub next-is : r ≡ min (at + length ws) (end + 1)
+  pub whole : at + length ws ≤ end → written ≡ ws
+  pub wires-is : w' ≡ sets w at written
 
 -- The heap bears words that hold the word of the bits x if that is a reference or None.
 pub record Offered (he : List ℕ) (x : ℕ) : Type 0 where

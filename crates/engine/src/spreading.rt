@@ -1,76 +1,82 @@
-// "A value copied to a wire is spread out in prefix form": how many words, and then the words, from the heap to a wire.
+// "A value copied to a wire is spread out in prefix form": from the heap to a wire, in one pass that stops where there is no room.
 ghost use mathlib.Core.Path.{_≡_};
-ghost use Prim.Native.Nat.{_+_, _≤_, min};
-ghost use lib.ListN.{length};
-ghost use Rattle.engine.specs.Copies.{Readable, FieldsReadable, spreads, spreadsAll, CellFits, FieldsFit, Written};
+ghost use Prim.Native.Nat.{_+_, _-_, _^_, _≤_, _<_};
+ghost use lib.ListN.{length, getD, set};
+ghost use Rattle.hume.specs.Words.{tupleHeader};
+ghost use Rattle.engine.specs.Copies.{Readable, spreads, Spread};
 
-// How many words there are with those of the word w, `at` being counted before it: 65 as soon as there are more than 64.
-pub(crate) fn cell_length(heap: &[u32], w: u32, at: usize) -> usize
-    requires { ⌜ Readable (now heap) w ⌝ }
-    requires { ⌜ at ≤ 64 ⌝ }
-    ensures { λ r. ⌜ ((k : Readable (now (heap .entry)) w) → r ≡ min (at + length (spreads k)) 65) ⌝ }
+// The two words of the object at p that every object has.
+fn spread_pair(heap: &[u32], p: usize, wires: &mut [u32], at: usize)
+    requires { ⌜ p + 2 ≤ length (now heap) ⌝ }
+    requires { ⌜ at + 2 ≤ length (now wires) ⌝ }
+    ensures { λ _. ⌜ now (wires .exit) ≡ set (set (now (wires .entry)) at (getD (now (heap .entry)) p 0)) (at + 1) (getD (now (heap .entry)) (p + 1) 0) ⌝ }
 {
-    if w == 536870912 {
-        return at + 1;
-    }
-    if 63 <= at {
-        return 65;
-    }
+    wires[at] = heap[p];
+    wires[at + 1] = heap[p + 1];
+}
+
+// Spreads the reference w out on the empty wire at the index `at`, all but its count: how many words that are, 65 if there are
+// more than 64. Then as many as there is room for may be written.
+pub(crate) fn spread(heap: &[u32], w: u32, wires: &mut [u32], at: usize) -> usize
+    requires { ⌜ Readable (now heap) w ⌝ }
+    requires { ⌜ (w ≡ 2 ^ 29 → ⊥) ⌝ }
+    requires { ⌜ at + 65 ≤ length (now wires) ⌝ }
+    ensures { λ r. ⌜ ((k : Readable (now (heap .entry)) w) → Spread (spreads k) (at + 1) (at + 65) (now (wires .entry)) (at + 1 + r) (now (wires .exit))) ⌝ }
+{
     let p = (w - 268435456) as usize;
     if heap[p] < 262144 {
-        return at + 2;
+        spread_pair(heap, p, wires, at + 1);
+        return 2;
     }
-    let n = heap[p + 1] as usize;
-    fields_length(heap, p + 2, n, at + 2)
+    spread_block(&*heap, w, wires, at + 1, at + 65) - (at + 1)
 }
 
-// The same of the n fields from the heap place q on.
-fn fields_length(heap: &[u32], q: usize, n: usize, at: usize) -> usize
-    requires { ⌜ FieldsReadable (now heap) q n ⌝ }
-    requires { ⌜ at ≤ 64 ⌝ }
-    ensures { λ r. ⌜ ((k : FieldsReadable (now (heap .entry)) q n) → r ≡ min (at + length (spreadsAll k)) 65) ⌝ }
+// A Tuple, Constr or Exn from the index `at` on: the index after it, or end + 1 if it doesn't end before.
+fn spread_block(heap: &[u32], w: u32, wires: &mut [u32], at: usize, end: usize) -> usize
+    requires { ⌜ Readable (now heap) w ⌝ }
+    requires { ⌜ (w ≡ 2 ^ 29 → ⊥) ⌝ }
+    requires { ⌜ tupleHeader ≤ getD (now heap) (w - 2 ^ 28) 0 ⌝ }
+    requires { ⌜ at + 2 ≤ end ⌝ }
+    requires { ⌜ end ≤ length (now wires) ⌝ }
+    ensures { λ r. ⌜ ((k : Readable (now (heap .entry)) w) → Spread (spreads k) at end (now (wires .entry)) r (now (wires .exit))) ⌝ }
 {
-    if n == 0 {
-        return at;
+    let p = (w - 268435456) as usize;
+    spread_pair(heap, p, wires, at);
+    let n = heap[p + 1] as usize;
+    let mut out = at + 2;
+    let mut i = 0;
+    while i < n {
+        let field = heap[p + 2 + i];
+        out = spread_cell(heap, field, wires, out, end);
+        if end < out {
+            return end + 1;
+        }
+        i += 1;
     }
-    let w = heap[q];
-    let next = cell_length(heap, w, at);
-    if 64 < next {
-        return 65;
-    }
-    fields_length(heap, q + 1, n - 1, next)
+    out
 }
 
-// Writes the word w in full from the index `at` on; the index after it.
-pub(crate) fn write_cell(heap: &[u32], w: u32, wires: &mut [u32], at: usize) -> usize
-    requires { ⌜ CellFits (now heap) w at (length (now wires)) ⌝ }
-    ensures { λ r. ⌜ ((k : CellFits (now (heap .entry)) w at (length (now (wires .entry)))) → Written (spreads (k .reading)) at (now (wires .entry)) r (now (wires .exit))) ⌝ }
+// The same of any word that is a reference or None.
+fn spread_cell(heap: &[u32], w: u32, wires: &mut [u32], at: usize, end: usize) -> usize
+    requires { ⌜ Readable (now heap) w ⌝ }
+    requires { ⌜ at ≤ end ⌝ }
+    requires { ⌜ end ≤ length (now wires) ⌝ }
+    ensures { λ r. ⌜ ((k : Readable (now (heap .entry)) w) → Spread (spreads k) at end (now (wires .entry)) r (now (wires .exit))) ⌝ }
 {
     if w == 536870912 {
+        if end <= at {
+            return end + 1;
+        }
         wires[at] = 458752;
         return at + 1;
     }
+    if end < at + 2 {
+        return end + 1;
+    }
     let p = (w - 268435456) as usize;
-    let h = heap[p];
-    let n = heap[p + 1];
-    wires[at] = h;
-    wires[at + 1] = n;
-    if h < 262144 {
+    if heap[p] < 262144 {
+        spread_pair(heap, p, wires, at);
         return at + 2;
     }
-    let m = n as usize;
-    write_fields(heap, p + 2, m, wires, at + 2)
-}
-
-// The same of the n fields from the heap place q on.
-fn write_fields(heap: &[u32], q: usize, n: usize, wires: &mut [u32], at: usize) -> usize
-    requires { ⌜ FieldsFit (now heap) q n at (length (now wires)) ⌝ }
-    ensures { λ r. ⌜ ((k : FieldsFit (now (heap .entry)) q n at (length (now (wires .entry)))) → Written (spreadsAll (k .reading)) at (now (wires .entry)) r (now (wires .exit))) ⌝ }
-{
-    if n == 0 {
-        return at;
-    }
-    let w = heap[q];
-    let next = write_cell(heap, w, wires, at);
-    write_fields(heap, q + 1, n - 1, wires, next)
+    spread_block(&*heap, w, wires, at, end)
 }

@@ -5,15 +5,17 @@ use super::placing::place_cell;
 use super::regs::Limits;
 use super::regs::Regs;
 use super::regs::Turn;
-use super::spreading::cell_length;
-use super::spreading::write_cell;
+use super::spreading::spread;
 use super::words::is_value;
 ghost use mathlib.Core.Path.{_≡_};
 ghost use mathlib.Core.List.{List};
 ghost use Prim.Native.Nat.{ℕ, _+_, _*_, _≤_, _<_};
+ghost use lib.Dec.{eqb};
 ghost use lib.ListN.{length, getD, replicate};
-ghost use lib.Seq.{paste};
+ghost use lib.Seq.{paste, sets};
+ghost use Rattle.hume.specs.Tests.{pick};
 ghost use Rattle.hume.specs.Image.{Program};
+ghost use Rattle.hume.specs.Values.{spread};
 ghost use Rattle.hume.specs.Instructions.{CopyInput, Consume, CheckOutputs, Write};
 ghost use Rattle.engine.specs.Turns.{Meets, priced, buffers};
 ghost use Rattle.engine.specs.Fits.{Fit};
@@ -76,13 +78,16 @@ struct Room {
     n: usize,
 }
 
-// The room that the word w finds on the wire at the index `at`. Whether its value fits 64 words is known before anything is
-// written, so that fault 6 leaves every buffer as it was. It takes no registers: those passed on once more go through memory.
-fn room_for(w: u32, at: usize, heap: &[u32], wires: &[u32]) -> Room
-    requires { ⌜ at < length (now wires) ⌝ }
+// The room that the word w finds on the wire o; its words are then on it, all but their count. A value that doesn't fit 64 words
+// leaves the wire empty again: fault 6 leaves every buffer as it was. It takes no registers: those passed on once more go
+// through memory.
+fn room_for(w: u32, o: usize, heap: &[u32], wires: &mut [u32]) -> Room
+    requires { ⌜ WireFits (now wires) o ⌝ }
     requires { ⌜ Offered (now heap) w ⌝ }
-    ensures { λ r. ⌜ ((k : Offered (now (heap .entry)) w) → r ≡ roomOf (k .words) (k .word) (getD (now (wires .entry)) at 0)) ⌝ }
+    ensures { λ r. ⌜ ((k : Offered (now (heap .entry)) w) → r ≡ roomOf (k .words) (k .word) (getD (now (wires .entry)) (65 * o) 0)) ⌝ }
+    ensures { λ r. ⌜ ((k : Offered (now (heap .entry)) w) → now (wires .exit) ≡ pick (eqb (r .n) 0) (now (wires .entry)) (sets (now (wires .entry)) (65 * o + 1) (spread (k .words) (k .word)))) ⌝ }
 {
+    let at = 65 * o;
     if !is_value(w) {
         return Room { fault: 2, n: 0 };
     }
@@ -92,8 +97,9 @@ fn room_for(w: u32, at: usize, heap: &[u32], wires: &[u32]) -> Room
     if wires[at] != 0 {
         return Room { fault: 5, n: 0 };
     }
-    let n = cell_length(heap, w, 0);
+    let n = spread(heap, w, wires, at);
     if 64 < n {
+        clear_wire(wires, at);
         return Room { fault: 6, n: 0 };
     }
     Room { fault: 0, n: n }
@@ -184,7 +190,8 @@ impl Regs {
         turn
     }
 
-    // "39 Write a [-1]: None writes nothing". The words after those written are zeros already, since the wire was empty.
+    // "39 Write a [-1]: None writes nothing". The words after those written are zeros already, since the wire was empty. Without
+    // the time for it they are taken back.
     pub(crate) fn write(
         self,
         lim: Limits,
@@ -206,8 +213,8 @@ impl Regs {
             return self.halt(Ending::Fault(1));
         }
         let w = stack[sp - 1];
-        let at = 65 * (inputs + a);
-        let room = room_for(w, at, heap, wires);
+        let o = inputs + a;
+        let room = room_for(w, o, heap, wires);
         if room.fault != 0 {
             return self.halt(Ending::Fault(room.fault));
         }
@@ -217,8 +224,11 @@ impl Regs {
         let turn = self.charge_time(lim, cost, next);
         if turn.go {
             if room.n != 0 {
-                write_cell(heap, w, wires, at + 1);
-                wires[at] = room.n as u32;
+                wires[65 * o] = room.n as u32;
+            }
+        } else {
+            if room.n != 0 {
+                clear_wire(wires, 65 * o);
             }
         }
         turn
