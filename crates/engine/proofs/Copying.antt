@@ -6,7 +6,6 @@ use mathlib.Core.List.{List, [], _∷_, _++_, map, append-assoc, append-nil}
 use Prim.Native.Nat.{ℕ, suc, _+_, _-_, _*_, _^_, _≤_, _<_}
 use native.Mathlib.Omega.{arith}
 use native.Mathlib.Nat.{add-zero, ne-of-gt}
-use native.Mathlib.Numerals.{add-one}
 use lib.Dec.{T, eqb, eqb→eq, T-not, not-T}
 use lib.ListN.{length, getD, set, take, drop, length-append, length-drop, length-map, length-set, take-append-drop}
 use lib.Seq.{sets, take-set-le, drop-set-lt, set-comm, getD-take, getD-drop, length-take-le, drop-drop, drop-append-seam, append-snoc}
@@ -24,7 +23,7 @@ use Rattle.laws.proofs.Deeds.{need-yes, need-no}
 use Rattle.laws.proofs.Values.{atom-header, block-header, length-placed, length-placedAll, prefix-least, one-value, size-heads, size-most, heads-at-none, heads-at-cell, heads-at-end}
 use Rattle.laws.proofs.Wires.{wire-full}
 use Rattle.engine.specs.Fits.{Fit}
-use Rattle.engine.specs.Copies.{WireFits, CellHere, CellPlaced, FieldsHere, FieldsPlaced}
+use Rattle.engine.specs.Copies.{WireFits, Laid, CellHere, BlockHere, Copied, CellPlaced, Filling}
 use Rattle.engine.specs.Turns.{Bears, core, Holds, halt, Buffers, Turned, priced}
 use Rattle.engine.specs.declared.Ending.the-variants as ending
 use Rattle.engine.specs.declared.regs.Limits.{Limits}
@@ -33,6 +32,7 @@ use Rattle.engine.specs.declared.regs.Turn.{Turn}
 use Rattle.engine.proofs.After.{built}
 use Rattle.engine.proofs.Turning.{Leads, stops, lead-grown}
 use Rattle.engine.proofs.Areas.{bears-push, locals-append}
+use Rattle.engine.proofs.Laying.{laid-none, laid-wide, laid-then, laid-set, laid-pair, laid-whole, waits-next}
 
 -- ---- stores in a row
 
@@ -75,14 +75,6 @@ bears-sets l hs (w ∷ g) b h =
 bits-append : (a b : List Word) → map bits (a ++ b) ≡ map bits a ++ map bits b
 bits-append [] b = refl
 bits-append (w ∷ a) b = ap (λ (z : List ℕ). bits w ∷ z) (bits-append a b)
-
--- the two words of an object, stored after its fields' references
-object : (l : List ℕ) (t h n : ℕ) (b : List ℕ) → set (set (sets l (t + 2) b) t h) (t + 1) n ≡ sets l t (h ∷ n ∷ b)
-object l t h n b =
-    let two : t + 2 ≡ suc (suc t) = omega arith in
-    rw (two, add-one)
-    (ap (λ (z : List ℕ). set z (suc t) n) (set-sets l (suc (suc t)) t h b (omega arith))
-    ∙ set-sets (set l t h) (suc (suc t)) (suc t) n b (omega arith))
 
 -- ---- words that go on with others
 
@@ -160,7 +152,7 @@ prefix-some nothing = omega arith
 prefix-some (atom h x) = omega arith
 prefix-some (block h vs) = omega arith
 
-module _ (w : List ℕ) (i hp : ℕ) where
+module _ (w : List ℕ) (i hp stop : ℕ) where
   some-cell : (v : Value) (rest : List ℕ) → drop i w ≡ prefix v ++ rest → (getD w i 0 ≡ noneHeader → ⊥) → T (not (isNothing v))
   unfolding prefix
   some-cell nothing rest e k = absurd (k (first-at w i noneHeader rest e))
@@ -168,10 +160,14 @@ module _ (w : List ℕ) (i hp : ℕ) where
   some-cell (block h vs) rest e k = tt
 
   none-placed : (v : Value) (rest : List ℕ) → T (good v) → drop i w ≡ prefix v ++ rest → getD w i 0 ≡ noneHeader
-      → (he : List ℕ) → CellPlaced v i hp he (i + 1) hp (2 ^ 29) he
+      → (he : List ℕ) → CellPlaced v i hp stop he (i + 1) hp (2 ^ 29) he
   unfolding good prefix placed size
   none-placed nothing rest g e k he =
-      record { next-is = refl; top-is = omega arith; word-is = bits-nothing; heap-is = refl }
+      record {
+        next-is = refl;
+        top-is = omega arith;
+        copied = record { word-is = bits-nothing; laid = laid-none hp stop he };
+      }
   none-placed (atom h x) rest g e k he =
       absurd (let a = atom-header h x g in let b = first-at w i h (x ∷ rest) e in omega arith)
   none-placed (block h vs) rest g e k he =
@@ -192,155 +188,60 @@ module _ (w : List ℕ) (i hp : ℕ) where
       omega arith)
 
   atom-placed : (v : Value) (rest : List ℕ) → T (good v) → drop i w ≡ prefix v ++ rest → getD w i 0 < tupleHeader
-      → (he : List ℕ)
-      → CellPlaced v i hp he (i + 2) (hp + 2) (2 ^ 28 + hp) (set (set he hp (getD w i 0)) (hp + 1) (getD w (i + 1) 0))
+      → (he : List ℕ) → hp + 2 ≤ stop → stop ≤ length he
+      → CellPlaced v i hp stop he (i + 2) (hp + 2) (2 ^ 28 + hp)
+      (set (set he hp (getD w i 0)) (hp + 1) (getD w (i + 1) 0))
   unfolding good prefix placed size
-  atom-placed nothing rest g e k he = absurd (let b = first-at w i noneHeader rest e in omega arith)
-  atom-placed (atom h x) rest g e k he =
+  atom-placed nothing rest g e k he f l = absurd (let b = first-at w i noneHeader rest e in omega arith)
+  atom-placed (atom h x) rest g e k he f l =
       let p = pair-at w i h x rest e in
       record {
         next-is = refl;
         top-is = refl;
-        word-is = bits-ref hp;
-        heap-is = rw (p .one, p .two, add-one, bits-raw h, bits-raw x) refl;
+        copied = record {
+          word-is = bits-ref hp;
+          laid = rw (p .one, p .two, bits-raw h, bits-raw x) (laid-pair hp stop h x he f (omega arith));
+        };
       }
-  atom-placed (block h vs) rest g e k he =
+  atom-placed (block h vs) rest g e k he f l =
       absurd
       (let a = block-header h (count vs) (and-left (blockOk h (count vs)) _ g) .least in
       let b = first-at w i h (count vs ∷ prefixes vs ++ rest) e in
       omega arith)
 
   -- a block: its fields follow
-  block-here : (room : ℕ) (v : Value) (rest : List ℕ) → T (good v) → drop i w ≡ prefix v ++ rest → hp + size v ≤ room
-      → hp + size v < 2 ^ 28 → (getD w i 0 ≡ noneHeader → ⊥) → tupleHeader ≤ getD w i 0
-      → FieldsHere w (i + 2) (getD w (i + 1) 0) 2 room hp
+  block-here : (room : ℕ) (v : Value) (rest : List ℕ) → T (good v) → drop i w ≡ prefix v ++ rest → hp + size v ≤ stop
+      → stop < 2 ^ 28 → stop ≤ room → (getD w i 0 ≡ noneHeader → ⊥) → tupleHeader ≤ getD w i 0 → BlockHere w i hp stop room
   unfolding good prefix size
-  block-here room nothing rest g e f l n k = absurd (n (first-at w i noneHeader rest e))
-  block-here room (atom h x) rest g e f l n k =
+  block-here room nothing rest g e f l o n k = absurd (n (first-at w i noneHeader rest e))
+  block-here room (atom h x) rest g e f l o n k =
       absurd (let a = atom-header h x g in let b = first-at w i h (x ∷ rest) e in omega arith)
-  block-here room (block h vs) rest g e f l n k =
-      let p = pair-at w i h (count vs) (prefixes vs ++ rest) e in
-      let m : getD w (i + 1) 0 ≡ count vs = p .two in
+  block-here room (block h vs) rest g e f l o n k =
       record {
+        header = h;
         values = vs;
         rest = rest;
         good = and-right (blockOk h (count vs)) _ g;
-        many = m;
-        here = p .then;
-        fits = rw m (omega arith);
-        low = rw m (omega arith);
+        here = e;
+        fits = f;
+        low = l;
+        inside = o;
       }
 
-  -- and what their copier leaves is all but the object's header and size
-  block-placed : (room : ℕ) (v : Value) (rest : List ℕ) → T (good v) → drop i w ≡ prefix v ++ rest → hp + size v ≤ room
-      → hp + size v < 2 ^ 28 → (getD w i 0 ≡ noneHeader → ⊥) → tupleHeader ≤ getD w i 0
-      → (next top : ℕ) (he he' : List ℕ)
-      → ((k : FieldsHere w (i + 2) (getD w (i + 1) 0) 2 room hp) → FieldsPlaced (k .values) (i + 2) 2 hp he next top he')
-      → CellPlaced v i hp he next (top + 2 + getD w (i + 1) 0) (2 ^ 28 + top)
-      (set (set he' top (getD w i 0)) (top + 1) (getD w (i + 1) 0))
-  unfolding good prefix placed size block-here
-  block-placed room nothing rest g e f l n k next top he he' d = absurd (n (first-at w i noneHeader rest e))
-  block-placed room (atom h x) rest g e f l n k next top he he' d =
+  block-placed : (room : ℕ) (v : Value) (rest : List ℕ) (g : T (good v)) (e : drop i w ≡ prefix v ++ rest)
+      (f : hp + size v ≤ stop) (l : stop < 2 ^ 28) (o : stop ≤ room) (n : getD w i 0 ≡ noneHeader → ⊥)
+      (k : tupleHeader ≤ getD w i 0) {next top x : ℕ} {he he' : List ℕ}
+      → ((b : BlockHere w i hp stop room) → CellPlaced (block (b .header) (b .values)) i hp stop he next top x he')
+      → CellPlaced v i hp stop he next top x he'
+  unfolding good prefix size block-here
+  block-placed room nothing rest g e f l o n k d = absurd (n (first-at w i noneHeader rest e))
+  block-placed room (atom h x) rest g e f l o n k d =
       absurd (let a = atom-header h x g in let b = first-at w i h (x ∷ rest) e in omega arith)
-  block-placed room (block h vs) rest g e f l n k next top he he' d =
-      let p = pair-at w i h (count vs) (prefixes vs ++ rest) e in
-      let done : FieldsPlaced vs (i + 2) 2 hp he next top he' = d (block-here room (block h vs) rest g e f l n k) in
-      let fs = map bits (placedAll vs hp) in
-      let rs = map bits (refersAll vs hp) in
-      let m : length fs ≡ sizes vs = length-map (placedAll vs hp) bits ∙ length-placedAll vs hp in
-      let t : top ≡ hp + length fs = done .top-is ∙ ap (λ (z : ℕ). hp + z) (sym m) in
-      let words : fs ++ h ∷ count vs ∷ rs ≡ map bits (placedAll vs hp ++ raw h ∷ raw (count vs) ∷ refersAll vs hp) =
-      rw (bits-append (placedAll vs hp) (raw h ∷ raw (count vs) ∷ refersAll vs hp), bits-raw h, bits-raw (count vs)) refl in
-      let u : top ≡ hp + length (placedAll vs hp) = t ∙ ap (λ (z : ℕ). hp + z) (length-map (placedAll vs hp) bits) in
-      record {
-        next-is = done .next-is ∙ omega arith;
-        top-is = rw (p .two, done .top-is) (omega arith);
-        word-is = ap (λ (z : ℕ). 2 ^ 28 + z) u ∙ bits-ref (hp + length (placedAll vs hp));
-        heap-is =
-            rw (p .one, p .two, done .heap-is)
-            (object (sets he hp fs) top h (count vs) rs
-            ∙ ap (λ (z : ℕ). sets (sets he hp fs) z (h ∷ count vs ∷ rs)) t
-            ∙ sets-append he hp fs (h ∷ count vs ∷ rs)
-            ∙ ap (λ (z : List ℕ). sets he hp z) words);
-      }
-
--- ---- a list of fields, by how many are left
-
-module _ (w : List ℕ) (i n j room hp : ℕ) where
-  no-more : (vs : Values) → n ≡ count vs → n ≡ 0 → (he : List ℕ) → FieldsPlaced vs i j hp he i hp he
-  unfolding prefix placed size
-  no-more end m z he = record { next-is = omega arith; top-is = omega arith; heap-is = refl }
-  no-more (more v vs) m z he = absurd (omega arith)
-
-  first-here : (vs : Values) (rest : List ℕ) → T (goods vs) → n ≡ count vs → drop i w ≡ prefixes vs ++ rest
-      → hp + sizes vs + j + n ≤ room → hp + sizes vs + j + n < 2 ^ 28 → (n ≡ 0 → ⊥) → CellHere w i room hp
-  unfolding good prefix size
-  first-here end rest g m e f l z = absurd (z m)
-  first-here (more v vs) rest g m e f l z =
-      record {
-        value = v;
-        rest = prefixes vs ++ rest;
-        good = and-left (good v) _ g;
-        here = e ∙ append-assoc (prefix v) (prefixes vs) rest;
-        fits = omega arith;
-        low = omega arith;
-      }
-
-  module _ (next top x : ℕ) (he he₁ : List ℕ)
-      (cell : (k : CellHere w i room hp) → CellPlaced (k .value) i hp he next top x he₁) where
-    later-here : (vs : Values) (rest : List ℕ) → T (goods vs) → n ≡ count vs → drop i w ≡ prefixes vs ++ rest
-        → hp + sizes vs + j + n ≤ room → hp + sizes vs + j + n < 2 ^ 28 → (n ≡ 0 → ⊥)
-        → FieldsHere w next (n - 1) (j + 1) room top
-    unfolding good prefix size first-here
-    later-here end rest g m e f l z = absurd (z m)
-    later-here (more v vs) rest g m e f l z =
-        let d : CellPlaced v i hp he next top x he₁ = cell (first-here (more v vs) rest g m e f l z) in
-        let t : top ≡ hp + size v = d .top-is in
-        record {
-          values = vs;
-          rest = rest;
-          good = and-right (good v) _ g;
-          many = omega arith;
-          here = rw (d .next-is) (past w i (prefix v) (prefixes vs ++ rest) (e ∙ append-assoc (prefix v) (prefixes vs) rest));
-          fits = omega arith;
-          low = omega arith;
-        }
-
-    all-placed : (vs : Values) (rest : List ℕ) → T (goods vs) → n ≡ count vs → drop i w ≡ prefixes vs ++ rest
-        → hp + sizes vs + j + n ≤ room → hp + sizes vs + j + n < 2 ^ 28 → (n ≡ 0 → ⊥)
-        → (next₂ top₂ : ℕ) (he₂ : List ℕ)
-        → ((k : FieldsHere w next (n - 1) (j + 1) room top) → FieldsPlaced (k .values) next (j + 1) top he₁ next₂ top₂ he₂)
-        → FieldsPlaced vs i j hp he next₂ top₂ (set he₂ (top₂ + j) x)
-    unfolding good prefix placed size first-here later-here
-    all-placed end rest g m e f l z next₂ top₂ he₂ fd = absurd (z m)
-    all-placed (more v vs) rest g m e f l z next₂ top₂ he₂ fd =
-        let d : CellPlaced v i hp he next top x he₁ = cell (first-here (more v vs) rest g m e f l z) in
-        let r : FieldsPlaced vs next (j + 1) top he₁ next₂ top₂ he₂ = fd (later-here (more v vs) rest g m e f l z) in
-        let a = map bits (placed v hp) in
-        let hp₁ = hp + length (placed v hp) in
-        let b = map bits (placedAll vs hp₁) in
-        let rs = map bits (refersAll vs hp₁) in
-        let t : top ≡ hp₁ = d .top-is ∙ ap (λ (y : ℕ). hp + y) (sym (length-placed v hp)) in
-        let u : hp₁ ≡ hp + length a = ap (λ (y : ℕ). hp + y) (sym (length-map (placed v hp) bits)) in
-        let y : top₂ + (j + 1) ≡ suc (top₂ + j) = omega arith in
-        let was : he₂ ≡ sets (sets (sets he hp a) hp₁ b) (suc (top₂ + j)) rs =
-        rw (t, d .heap-is, y) at (r .heap-is) in
-        let one : sets (sets he hp a) hp₁ b ≡ sets he hp (map bits (placed v hp ++ placedAll vs hp₁)) =
-        ap (λ (q : ℕ). sets (sets he hp a) q b) u
-        ∙ sets-append he hp a b
-        ∙ ap (λ (q : List ℕ). sets he hp q) (sym (bits-append (placed v hp) (placedAll vs hp₁))) in
-        record {
-          next-is = let c = length-append (prefix v) (prefixes vs) in omega (arith, d .next-is, r .next-is);
-          top-is = omega (arith, d .top-is, r .top-is);
-          heap-is =
-              rw (was, one, d .word-is)
-              (set-sets (sets he hp (map bits (placed v hp ++ placedAll vs hp₁))) (suc (top₂ + j)) (top₂ + j)
-              (bits (refers v hp)) rs (omega arith));
-        }
+  block-placed room (block h vs) rest g e f l o n k d = d (block-here room (block h vs) rest g e f l o n k)
 
 -- ---- the same, from the records alone
 
-module _ {w : List ℕ} {i room hp : ℕ} (k : CellHere w i room hp) where
+module _ {w : List ℕ} {i hp stop room : ℕ} (k : CellHere w i hp stop room) where
   long : length w - i ≡ length (prefix (k .value)) + length (k .rest)
   long =
       sym (length-drop i w)
@@ -350,63 +251,229 @@ module _ {w : List ℕ} {i room hp : ℕ} (k : CellHere w i room hp) where
   pub cell-inside : i < length w
   cell-inside = let a = long in let b = prefix-some (k .value) in omega arith
 
-  pub cell-inside-2 : (getD w i 0 ≡ noneHeader → ⊥) → i + 1 < length w
+  pub cell-inside-2 : (getD w i 0 ≡ noneHeader → ⊥) → i + 2 ≤ length w
   cell-inside-2 n =
       let a = long in
-      let b = prefix-least (k .value) (some-cell w i hp (k .value) (k .rest) (k .here) n) in
+      let b = prefix-least (k .value) (some-cell w i hp stop (k .value) (k .rest) (k .here) n) in
       omega arith
 
-  pub cell-none : getD w i 0 ≡ noneHeader → (he : List ℕ) → CellPlaced (k .value) i hp he (i + 1) hp (2 ^ 29) he
-  cell-none e he = none-placed w i hp (k .value) (k .rest) (k .good) (k .here) e he
+  pub cell-none : getD w i 0 ≡ noneHeader → (he : List ℕ) → CellPlaced (k .value) i hp stop he (i + 1) hp (2 ^ 29) he
+  cell-none e he = none-placed w i hp stop (k .value) (k .rest) (k .good) (k .here) e he
 
-  pub cell-two : getD w i 0 < tupleHeader → size (k .value) ≡ 2
-  cell-two a = atom-size w i hp (k .value) (k .rest) (k .good) (k .here) a
+  pub cell-two : getD w i 0 < tupleHeader → hp + 2 ≤ stop
+  cell-two a =
+      let b = atom-size w i hp stop (k .value) (k .rest) (k .good) (k .here) a in let c = k .fits in omega arith
 
-  pub cell-atom : getD w i 0 < tupleHeader → (he : List ℕ)
-      → CellPlaced (k .value) i hp he (i + 2) (hp + 2) (2 ^ 28 + hp)
+  pub cell-atom : getD w i 0 < tupleHeader → (he : List ℕ) → length he ≡ room
+      → CellPlaced (k .value) i hp stop he (i + 2) (hp + 2) (2 ^ 28 + hp)
       (set (set he hp (getD w i 0)) (hp + 1) (getD w (i + 1) 0))
-  cell-atom a he = atom-placed w i hp (k .value) (k .rest) (k .good) (k .here) a he
+  cell-atom a he e =
+      let b = k .inside in
+      atom-placed w i hp stop (k .value) (k .rest) (k .good) (k .here) a he (cell-two a) (omega arith)
 
-  pub cell-fields : (getD w i 0 ≡ noneHeader → ⊥) → tupleHeader ≤ getD w i 0
-      → FieldsHere w (i + 2) (getD w (i + 1) 0) 2 room hp
-  cell-fields n b = block-here w i hp room (k .value) (k .rest) (k .good) (k .here) (k .fits) (k .low) n b
+  pub cell-block : (getD w i 0 ≡ noneHeader → ⊥) → tupleHeader ≤ getD w i 0 → BlockHere w i hp stop room
+  cell-block n b =
+      block-here w i hp stop room (k .value) (k .rest) (k .good) (k .here) (k .fits) (k .low) (k .inside) n b
 
-  pub cell-block : (getD w i 0 ≡ noneHeader → ⊥) → tupleHeader ≤ getD w i 0 → {next top : ℕ} {he he' : List ℕ}
-      → ((k : FieldsHere w (i + 2) (getD w (i + 1) 0) 2 room hp) → FieldsPlaced (k .values) (i + 2) 2 hp he next top he')
-      → CellPlaced (k .value) i hp he next (top + 2 + getD w (i + 1) 0) (2 ^ 28 + top)
-      (set (set he' top (getD w i 0)) (top + 1) (getD w (i + 1) 0))
-  cell-block n b {next} {top} {he} {he'} d =
-      block-placed w i hp room (k .value) (k .rest) (k .good) (k .here) (k .fits) (k .low) n b next top he he' d
+  pub cell-placed : (getD w i 0 ≡ noneHeader → ⊥) → tupleHeader ≤ getD w i 0 → {next top x : ℕ} {he he' : List ℕ}
+      → ((b : BlockHere w i hp stop room) → CellPlaced (block (b .header) (b .values)) i hp stop he next top x he')
+      → CellPlaced (k .value) i hp stop he next top x he'
+  cell-placed n b d =
+      block-placed w i hp stop room (k .value) (k .rest) (k .good) (k .here) (k .fits) (k .low) (k .inside) n b d
 
-module _ {w : List ℕ} {i n j room hp : ℕ} (k : FieldsHere w i n j room hp) where
-  pub fields-none : n ≡ 0 → (he : List ℕ) → FieldsPlaced (k .values) i j hp he i hp he
-  fields-none z he = no-more w i n j room hp (k .values) (k .many) z he
+-- ---- a block's fields, one after the other
 
-  pub fields-first : (n ≡ 0 → ⊥) → CellHere w i room hp
-  fields-first z = first-here w i n j room hp (k .values) (k .rest) (k .good) (k .many) (k .here) (k .fits) (k .low) z
+module _ (w : List ℕ) (from hp base stop : ℕ) (he : List ℕ) (k i top : ℕ) (he' : List ℕ) where
+  -- the next field, where there is one
+  next-here : (vs others : Values) (rest : List ℕ) → T (goods others) → drop i w ≡ prefixes others ++ rest
+      → k + count others ≡ count vs → top + sizes others ≤ base → base < 2 ^ 28 → (room : ℕ) → base ≤ room → k < count vs
+      → CellHere w i top base room
+  unfolding good prefix size
+  next-here vs end rest g e m f l room o h = absurd (omega arith)
+  next-here vs (more v us) rest g e m f l room o h =
+      record {
+        value = v;
+        rest = prefixes us ++ rest;
+        good = and-left (good v) _ g;
+        here = e ∙ append-assoc (prefix v) (prefixes us) rest;
+        fits = omega arith;
+        low = l;
+        inside = o;
+      }
 
-  module _ (z : n ≡ 0 → ⊥) {next top x : ℕ} {he he₁ : List ℕ}
-      (cell : (k : CellHere w i room hp) → CellPlaced (k .value) i hp he next top x he₁) where
-    pub fields-later : FieldsHere w next (n - 1) (j + 1) room top
-    fields-later =
-        later-here w i n j room hp next top x he he₁ cell (k .values) (k .rest) (k .good) (k .many) (k .here) (k .fits)
-        (k .low) z
+  -- and what stands after it
+  next-filled : (vs others : Values) (rest : List ℕ) (g : T (goods others)) (e : drop i w ≡ prefixes others ++ rest)
+      (m : k + count others ≡ count vs) (f : top + sizes others ≤ base) (l : base < 2 ^ 28) (room : ℕ) (o : base ≤ room)
+      (h : k < count vs) (done refs : List Word)
+      → i + length (prefixes others) ≡ from + length (prefixes vs) → top + sizes others ≡ hp + sizes vs
+      → done ++ placedAll others top ≡ placedAll vs hp → refs ++ refersAll others top ≡ refersAll vs hp
+      → hp + length done ≡ top → length refs ≡ k → Laid hp stop (map bits done) he he'
+      → take k (drop base he') ≡ map bits refs → base + count vs ≡ stop → stop ≤ length he'
+      → {next top₁ x : ℕ} {he₁ : List ℕ} → length he₁ ≡ length he'
+      → ((c : CellHere w i top base room) → CellPlaced (c .value) i top base he' next top₁ x he₁)
+      → Filling w vs from hp base stop he (k + 1) next top₁ (set he₁ (base + k) x)
+  unfolding good prefix placed size next-here
+  next-filled vs end rest g e m f l room o h done refs ni ti di ri dl rl la wa be en same d = absurd (omega arith)
+  next-filled vs (more v us) rest g e m f l room o h done refs ni ti di ri dl rl la wa be en {next} {top₁} {x} {he₁} same d =
+      let p : CellPlaced v i top base he' next top₁ x he₁ =
+      d (next-here vs (more v us) rest g e m f l room o h) in
+      let a = map bits (placed v top) in
+      let s : length (placed v top) ≡ size v = length-placed v top in
+      let sa : length a ≡ size v = length-map (placed v top) bits ∙ s in
+      let sd : length (map bits done) ≡ length done = length-map done bits in
+      let t : top + length (placed v top) ≡ top₁ = omega (arith, p .top-is) in
+      let b = bits-append done (placed v top) in
+      let c = length-append done (placed v top) in
+      let both : Laid hp stop (map bits (done ++ placed v top)) he he₁ =
+      rw b (laid-then (omega arith) la (laid-wide (omega arith) (p .copied .laid))) in
+      let lb : length (map bits (done ++ placed v top)) ≡ length done + size v =
+      length-map (done ++ placed v top) bits ∙ omega arith in
+      record {
+        others = us;
+        rest = rest;
+        done = done ++ placed v top;
+        refs = refs ++ refers v top ∷ [];
+        good = and-right (good v) _ g;
+        here = rw (p .next-is) (past w i (prefix v) (prefixes us ++ rest) (e ∙ append-assoc (prefix v) (prefixes us) rest));
+        many = omega arith;
+        next-is = let z = length-append (prefix v) (prefixes us) in omega (arith, p .next-is);
+        top-is = omega (arith, p .top-is);
+        done-is = append-assoc done (placed v top) (placedAll us top₁) ∙ rw (← t) di;
+        refs-is = append-assoc refs (refers v top ∷ []) (refersAll us top₁) ∙ rw (← t) ri;
+        done-long = omega (arith, p .top-is);
+        refs-long = length-append refs (refers v top ∷ []) ∙ omega arith;
+        laid = laid-set (base + k) x (omega arith) (omega arith) both;
+        waiting =
+            waits-next base k x he₁ (omega arith)
+            ∙ ap (λ (y : List ℕ). take k y ++ x ∷ []) (p .copied .laid .above)
+            ∙ ap (λ (y : List ℕ). y ++ x ∷ []) wa
+            ∙ ap (λ (y : ℕ). map bits refs ++ y ∷ []) (p .copied .word-is)
+            ∙ sym (bits-append refs (refers v top ∷ []));
+      }
 
-    pub fields-placed : {room₁ next₂ top₂ : ℕ} {he₂ : List ℕ} → room₁ ≡ room
-        → ((k : FieldsHere w next (n - 1) (j + 1) room₁ top) → FieldsPlaced (k .values) next (j + 1) top he₁ next₂ top₂ he₂)
-        → FieldsPlaced (k .values) i j hp he next₂ top₂ (set he₂ (top₂ + j) x)
-    fields-placed {room₁} {next₂} {top₂} {he₂} same fd =
-        all-placed w i n j room hp next top x he he₁ cell (k .values) (k .rest) (k .good) (k .many) (k .here) (k .fits)
-        (k .low) z next₂ top₂ he₂
-        (subst (λ (m : ℕ). (k : FieldsHere w next (n - 1) (j + 1) m top) → FieldsPlaced (k .values) next (j + 1) top he₁ next₂ top₂ he₂)
-        same fd)
+  -- after the last one
+  record Full (vs : Values) : Type 0 where
+    next-is : i ≡ from + length (prefixes vs)
+    top-is : top ≡ hp + sizes vs
+    laid : Laid hp stop (map bits (placedAll vs hp)) he he'
+    waiting : take k (drop base he') ≡ map bits (refersAll vs hp)
 
-    -- the wire words that remain fall
-    pub fields-fall : i < next
-    fields-fall =
-        let a = fields-first z in
-        let b = prefix-some (a .value) in
-        omega (arith, cell a .next-is)
+  last-filled : (vs others : Values) (done refs : List Word) → k + count others ≡ count vs
+      → i + length (prefixes others) ≡ from + length (prefixes vs) → top + sizes others ≡ hp + sizes vs
+      → done ++ placedAll others top ≡ placedAll vs hp → refs ++ refersAll others top ≡ refersAll vs hp
+      → Laid hp stop (map bits done) he he' → take k (drop base he') ≡ map bits refs → k ≡ count vs → Full vs
+  unfolding prefix placed size
+  last-filled vs end done refs m ni ti di ri la wa h =
+      record {
+        next-is = omega arith;
+        top-is = omega arith;
+        laid = rw (← di, append-nil done) la;
+        waiting = rw (← ri, append-nil refs) wa;
+      }
+  last-filled vs (more v us) done refs m ni ti di ri la wa h = absurd (omega arith)
+
+-- ---- the same, from the records alone
+
+module _ {w : List ℕ} {vs : Values} {from hp base stop : ℕ} {he : List ℕ} {k i top : ℕ} {he' : List ℕ}
+    (f : Filling w vs from hp base stop he k i top he') where
+  pub fill-top : top ≤ hp + sizes vs
+  fill-top = let a = f .top-is in omega arith
+
+  module _ (room : ℕ) (fits : hp + sizes vs ≤ base) (low : base < 2 ^ 28) (inside : base ≤ room) (h : k < count vs) where
+    abbrev fit : top + sizes (f .others) ≤ base
+    fit = let a = f .top-is in omega arith
+
+    pub fill-cell : CellHere w i top base room
+    fill-cell =
+        next-here w from hp base stop he k i top he' vs (f .others) (f .rest) (f .good) (f .here) (f .many) fit low room inside h
+
+    pub fill-next : base + count vs ≡ stop → stop ≤ length he' → {next top₁ x : ℕ} {he₁ : List ℕ} → length he₁ ≡ length he'
+        → ((c : CellHere w i top base room) → CellPlaced (c .value) i top base he' next top₁ x he₁)
+        → Filling w vs from hp base stop he (k + 1) next top₁ (set he₁ (base + k) x)
+    fill-next =
+        next-filled w from hp base stop he k i top he' vs (f .others) (f .rest) (f .good) (f .here) (f .many) fit low room
+        inside h (f .done) (f .refs) (f .next-is) (f .top-is) (f .done-is) (f .refs-is) (f .done-long) (f .refs-long)
+        (f .laid) (f .waiting)
+
+  filled : k ≡ count vs → Full w from hp base stop he k i top he' vs
+  filled h =
+      last-filled w from hp base stop he k i top he' vs (f .others) (f .done) (f .refs) (f .many) (f .next-is) (f .top-is)
+      (f .done-is) (f .refs-is) (f .laid) (f .waiting) h
+
+module _ {w : List ℕ} {from hp stop room : ℕ} (b : BlockHere w from hp stop room) where
+  abbrev n : ℕ
+  n = count (b .values)
+
+  here : Pair w from (b .header) n (prefixes (b .values) ++ b .rest)
+  here = pair-at w from (b .header) n (prefixes (b .values) ++ b .rest) (b .here)
+
+  pub block-inside : from + 2 ≤ length w
+  block-inside = let a = here .inside in omega arith
+
+  pub block-many : getD w (from + 1) 0 ≡ n
+  block-many = here .two
+
+  pub fill-none : (base : ℕ) (he : List ℕ) → Filling w (b .values) (from + 2) hp base stop he 0 (from + 2) hp he
+  fill-none base he =
+      record {
+        others = b .values;
+        rest = b .rest;
+        done = [];
+        refs = [];
+        good = b .good;
+        here = here .then;
+        many = omega arith;
+        next-is = refl;
+        top-is = refl;
+        done-is = refl;
+        refs-is = refl;
+        done-long = add-zero hp;
+        refs-long = refl;
+        laid = laid-none hp stop he;
+        waiting = refl;
+      }
+
+  -- the object's own words, and then the references, which waited
+  pub block-done : {base k i top : ℕ} {he he₁ he₂ he₃ : List ℕ} → Filling w (b .values) (from + 2) hp base stop he k i top he₁
+      → k ≡ getD w (from + 1) 0 → base + n ≡ stop → length he₁ ≡ room
+      → he₂ ≡ set (set he₁ top (getD w from 0)) (top + 1) (getD w (from + 1) 0)
+      → Laid (top + 2) (base + getD w (from + 1) 0) (take (getD w (from + 1) 0) (drop base he₂)) he₂ he₃
+      → CellPlaced (block (b .header) (b .values)) from hp stop he i (top + 2 + getD w (from + 1) 0) (2 ^ 28 + top) he₃
+  unfolding prefix placed size
+  block-done {base} {k} {i} {top} {he} {he₁} {he₂} {he₃} f m e r s moved =
+      let u = filled f (m ∙ block-many) in
+      let vs = b .values in
+      let h = b .header in
+      let fs = map bits (placedAll vs hp) in
+      let rs = map bits (refersAll vs hp) in
+      let lf : length fs ≡ sizes vs = length-map (placedAll vs hp) bits ∙ length-placedAll vs hp in
+      let t : top ≡ hp + sizes vs = u .top-is in
+      let fit = b .fits in
+      let i₁ = b .inside in
+      let p : Laid top stop (h ∷ n ∷ []) he₁ he₂ =
+      rw (s, here .one, here .two) (laid-pair top stop h n he₁ (omega arith) (omega arith)) in
+      let same : drop base he₂ ≡ drop base he₁ =
+      rw s
+      (drop-set-lt base (set he₁ top (getD w from 0)) (top + 1) (getD w (from + 1) 0) (omega arith)
+      ∙ drop-set-lt base he₁ top (getD w from 0) (omega arith)) in
+      let waited : take k (drop base he₂) ≡ rs = ap (λ (z : List ℕ). take k z) same ∙ u .waiting in
+      let z : base + k ≡ stop = omega (arith, m, block-many) in
+      let q : Laid (top + 2) stop rs he₂ he₃ = rw (← m, z, waited) at moved in
+      let lg : length (fs ++ h ∷ n ∷ []) ≡ sizes vs + 2 = length-append fs (h ∷ n ∷ []) ∙ omega arith in
+      let all : Laid hp stop (fs ++ h ∷ n ∷ [] ++ rs) he he₃ =
+      laid-then (omega arith) (laid-then (omega arith) (u .laid) p) q in
+      let words : fs ++ (h ∷ n ∷ []) ++ rs ≡ map bits (placedAll vs hp ++ raw h ∷ raw n ∷ refersAll vs hp) =
+      append-assoc fs (h ∷ n ∷ []) rs
+      ∙ rw (bits-append (placedAll vs hp) (raw h ∷ raw n ∷ refersAll vs hp), bits-raw h, bits-raw n) refl in
+      let lp : length (placedAll vs hp) ≡ sizes vs = length-placedAll vs hp in
+      record {
+        next-is = u .next-is ∙ omega arith;
+        top-is = omega (arith, block-many);
+        copied = record {
+          word-is = ap (λ (y : ℕ). 2 ^ 28 + y) (t ∙ ap (λ (y : ℕ). hp + y) (sym lp)) ∙ bits-ref (hp + length (placedAll vs hp));
+          laid = rw (← words) all;
+        };
+      }
 
 -- ---- the value on a wire
 
@@ -454,9 +521,9 @@ module _ {w : List ℕ} {a k : ℕ} (u : Input w a k) where
   pub input-few : size (u .value) ≤ 95
   input-few = size-most (u .value) (rw (u .long) (u .few))
 
-  pub input-here : (room hp : ℕ) → hp + size (u .value) ≤ room → hp + size (u .value) < 2 ^ 28
-      → CellHere w (65 * a + 1) room hp
-  input-here room hp f l =
+  pub input-here : (room hp stop : ℕ) → hp + size (u .value) ≤ stop → stop < 2 ^ 28 → stop ≤ room
+      → CellHere w (65 * a + 1) hp stop room
+  input-here room hp stop f l o =
       record {
         value = u .value;
         rest = drop k (drop (65 * a + 1) w);
@@ -464,13 +531,14 @@ module _ {w : List ℕ} {a k : ℕ} (u : Input w a k) where
         here = sym (take-append-drop k (drop (65 * a + 1) w)) ∙ ap (λ (x : List ℕ). x ++ drop k (drop (65 * a + 1) w)) (u .words);
         fits = f;
         low = l;
+        inside = o;
       }
 
-  pub input-placed : {room hp next top x : ℕ} {he he' : List ℕ} → hp + size (u .value) ≤ room → hp + size (u .value) < 2 ^ 28
-      → ((c : CellHere w (65 * a + 1) room hp) → CellPlaced (c .value) (65 * a + 1) hp he next top x he')
-      → CellPlaced (u .value) (65 * a + 1) hp he next top x he'
+  pub input-placed : {room hp stop x : ℕ} {he he' : List ℕ} → hp + size (u .value) ≤ stop → stop < 2 ^ 28 → stop ≤ room
+      → ((c : CellHere w (65 * a + 1) hp stop room) → Copied (c .value) hp stop he x he')
+      → Copied (u .value) hp stop he x he'
   unfolding input-here
-  input-placed {room} {hp} f l p = p (input-here room hp f l)
+  input-placed {room} {hp} {stop} f l o p = p (input-here room hp stop f l o)
 
 -- ---- what CopyInput leads to
 
@@ -505,10 +573,16 @@ module _ {lim : Limits} {r : Regs} (f : Fit lim r) {st he : List ℕ} {ws hs : L
         ∙ ap (λ (x : ℕ). r .fp + x)
         (sym (locals-append (r .fp) ws (refers (u .value) (length hs) ∷ []) (omega (arith, h .sp, f .fp, f .lp)))))
 
-    module _ {next top x i : ℕ} {he' : List ℕ} (p : CellPlaced (u .value) i (r .hp) he next top x he') where
-      pub copy-heap : r .hp + size (u .value) ≤ length he → Bears he' (hs ++ placed (u .value) (length hs))
-      copy-heap l =
-          rw (p .heap-is, h .hp)
+    module _ {stop x : ℕ} {he' : List ℕ} (p : Copied (u .value) (r .hp) stop he x he') where
+      pub copy-heap : stop ≡ r .hp + size (u .value) → r .hp + size (u .value) ≤ length he
+          → Bears he' (hs ++ placed (u .value) (length hs))
+      copy-heap e l =
+          let ws = map bits (placed (u .value) (r .hp)) in
+          let n : length ws ≡ size (u .value) =
+          length-map (placed (u .value) (r .hp)) bits ∙ length-placed (u .value) (r .hp) in
+          let z : stop ≡ r .hp + length ws = omega arith in
+          let all : he' ≡ sets he (r .hp) ws = laid-whole (r .hp) ws he (omega arith) (rw z at (p .laid)) in
+          rw (all, h .hp)
           (bears-sets he hs (placed (u .value) (length hs)) (h .heap)
           (rw (length-placed (u .value) (length hs), ← h .hp) l))
 

@@ -16,6 +16,7 @@ pub mod Backing
 pub mod Arms
 pub mod Telling
 pub mod Outputs
+pub mod Laying
 pub mod Copying
 pub mod Reading
 pub mod Writing

@@ -1,10 +1,10 @@
 -- Copies between a wire and the heap: what stands where one begins, and what it leaves.
 use mathlib.Core.Path.{_≡_}
 use mathlib.Core.Bool.{Bool}
-use mathlib.Core.List.{List, _++_, map}
+use mathlib.Core.List.{List, _∷_, _++_, map}
 use Prim.Native.Nat.{ℕ, _+_, _-_, _*_, _^_, _≤_, _<_, min}
 use lib.Dec.{T, leb, eqb}
-use lib.ListN.{length, getD, drop}
+use lib.ListN.{length, getD, take, drop}
 use lib.Seq.{sets}
 use Rattle.hume.specs.Tests.{pick}
 use Rattle.hume.specs.Words.{Word, null, bits, isNone, isValue}
@@ -50,36 +50,62 @@ pub record FirstStuck (st : List ℕ) (sp : ℕ) (w : List ℕ) (inputs n r : �
 
 -- ---- from a wire to the heap
 
--- A good value's prefix form stands at the index i of the words w, and a heap has room for a copy at hp.
-pub record CellHere (w : List ℕ) (i room hp : ℕ) : Type 0 where
+-- The words ws stand in an area from the place `at` on, and what was before them and from `end` on is as it was. What lies
+-- between is left open.
+pub record Laid (at end : ℕ) (ws l l' : List ℕ) : Type 0 where
+  pub below : take (at + length ws) l' ≡ take at l ++ ws
+  pub above : drop end l' ≡ drop end l
+
+-- A good value's prefix form stands at the index i of the words w, and there is room for a copy from hp to end.
+pub record CellHere (w : List ℕ) (i hp end room : ℕ) : Type 0 where
   pub value : Value
   pub rest : List ℕ
   pub good : T (good value)
   pub here : drop i w ≡ prefix value ++ rest
-  pub fits : hp + size value ≤ room
-  pub low : hp + size value < 2 ^ 28
+  pub fits : hp + size value ≤ end
+  pub low : end < 2 ^ 28
+  pub inside : end ≤ room
 
--- The copy is made: the next index, the next heap place, the word that refers to it, and the heap.
-pub record CellPlaced (v : Value) (i hp : ℕ) (he : List ℕ) (next top x : ℕ) (he' : List ℕ) : Type 0 where
-  pub next-is : next ≡ i + length (prefix v)
-  pub top-is : top ≡ hp + size v
-  pub word-is : x ≡ bits (refers v hp)
-  pub heap-is : he' ≡ sets he hp (map bits (placed v hp))
-
--- So with n values, whose references go j places past the last one's words.
-pub record FieldsHere (w : List ℕ) (i n j room hp : ℕ) : Type 0 where
+-- So with a block's: its header, its size and then its fields'.
+pub record BlockHere (w : List ℕ) (i hp end room : ℕ) : Type 0 where
+  pub header : ℕ
   pub values : Values
   pub rest : List ℕ
   pub good : T (goods values)
-  pub many : n ≡ count values
-  pub here : drop i w ≡ prefixes values ++ rest
-  pub fits : hp + sizes values + j + n ≤ room
-  pub low : hp + sizes values + j + n < 2 ^ 28
+  pub here : drop i w ≡ header ∷ count values ∷ prefixes values ++ rest
+  pub fits : hp + (sizes values + 2 + count values) ≤ end
+  pub low : end < 2 ^ 28
+  pub inside : end ≤ room
 
-pub record FieldsPlaced (vs : Values) (i j hp : ℕ) (he : List ℕ) (next top : ℕ) (he' : List ℕ) : Type 0 where
-  pub next-is : next ≡ i + length (prefixes vs)
-  pub top-is : top ≡ hp + sizes vs
-  pub heap-is : he' ≡ sets (sets he hp (map bits (placedAll vs hp))) (top + j) (map bits (refersAll vs hp))
+-- The copy is made: the word that refers to it, and the heap.
+pub record Copied (v : Value) (hp end : ℕ) (he : List ℕ) (x : ℕ) (he' : List ℕ) : Type 0 where
+  pub word-is : x ≡ bits (refers v hp)
+  pub laid : Laid hp end (map bits (placed v hp)) he he'
+
+-- with the next index and the next heap place
+pub record CellPlaced (v : Value) (i hp end : ℕ) (he : List ℕ) (next top x : ℕ) (he' : List ℕ) : Type 0 where
+  pub next-is : next ≡ i + length (prefix v)
+  pub top-is : top ≡ hp + size v
+  pub copied : Copied v hp end he x he'
+
+-- k of the values vs are placed from hp on, and the references to them wait from `base` on: i and top are where the others
+-- begin, on the wire and on the heap.
+pub record Filling (w : List ℕ) (vs : Values) (from hp base end : ℕ) (he : List ℕ) (k i top : ℕ) (he' : List ℕ) : Type 0 where
+  pub others : Values
+  pub rest : List ℕ
+  pub done : List Word
+  pub refs : List Word
+  pub good : T (goods others)
+  pub here : drop i w ≡ prefixes others ++ rest
+  pub many : k + count others ≡ count vs
+  pub next-is : i + length (prefixes others) ≡ from + length (prefixes vs)
+  pub top-is : top + sizes others ≡ hp + sizes vs
+  pub done-is : done ++ placedAll others top ≡ placedAll vs hp
+  pub refs-is : refs ++ refersAll others top ≡ refersAll vs hp
+  pub done-long : hp + length done ≡ top
+  pub refs-long : length refs ≡ k
+  pub laid : Laid hp end (map bits done) he he'
+  pub waiting : take k (drop base he') ≡ map bits refs
 
 -- ---- from the heap to a wire
 

@@ -14,13 +14,21 @@ ghost use Rattle.hume.specs.Instructions.{MkNone, Push, Pop, Slide, Copy, CopyA
 ghost use Rattle.engine.specs.Turns.{Meets, priced, pushing, buffers};
 ghost use Rattle.engine.specs.Fits.{Fit};
 
-// n nulls from a place on. An area is not wiped, so they are stored.
+// n nulls from a place on. An area is not wiped, so they are stored; for two or fewer, a call that fills memory takes longer.
 fn blank(stack: &mut [u32], at: usize, n: usize)
     requires { ⌜ at + n ≤ length (now stack) ⌝ }
     ensures { λ _. ⌜ now (stack .exit) ≡ sets (now (stack .entry)) at (replicate n 0) ⌝ }
 {
+    if n == 0 {
+        return;
+    }
+    stack[at] = 0;
+    if n == 1 {
+        return;
+    }
+    stack[at + 1] = 0;
     let end = at + n;
-    let mut k = at;
+    let mut k = at + 2;
     while k < end {
         stack[k] = 0;
         k += 1;

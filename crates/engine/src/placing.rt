@@ -1,21 +1,16 @@
 // "Copying a cell copies its fields, and a field is again a cell": from a wire to the heap.
 ghost use mathlib.Core.Path.{_≡_};
 ghost use Prim.Native.Nat.{_+_, _≤_};
-ghost use lib.ListN.{length, take, drop};
+ghost use lib.ListN.{length, take, drop, getD, set};
+ghost use Rattle.hume.specs.Values.{block};
 ghost use Rattle.laws.specs.Sizes.{heads};
-ghost use Rattle.engine.specs.Copies.{CellHere, CellPlaced, FieldsHere, FieldsPlaced};
+ghost use Rattle.engine.specs.Copies.{Laid, CellHere, BlockHere, Copied, CellPlaced};
 
 // After a cell: the next index of the wire's words, the next free place of the heap, and the word that refers to the cell.
-pub(crate) struct Placed {
-    pub next: usize,
-    pub top: usize,
-    pub word: u32,
-}
-
-// After a list of fields.
-pub(crate) struct After {
-    pub next: usize,
-    pub top: usize,
+struct Placed {
+    next: usize,
+    top: usize,
+    word: u32,
 }
 
 // How many heap words a copy of the value that the k words are places, known before anything is written: one pass over its cells.
@@ -37,10 +32,81 @@ pub(crate) fn count_words(wires: &[u32], from: usize, k: usize) -> usize
     k + n - 1
 }
 
-// "A copy to the heap places all fields, in order, before their object, so fields always refer lower."
-pub(crate) fn place_cell(wires: &[u32], i: usize, heap: &mut [u32], hp: usize) -> Placed
-    requires { ⌜ CellHere (now wires) i (length (now heap)) hp ⌝ }
-    ensures { λ r. ⌜ ((k : CellHere (now (wires .entry)) i (length (now (heap .entry))) hp) → CellPlaced (k .value) i hp (now (heap .entry)) (r .next) (r .top) (r .word) (now (heap .exit))) ⌝ }
+// The two words that every cell but None begins with.
+fn place_pair(wires: &[u32], i: usize, heap: &mut [u32], hp: usize)
+    requires { ⌜ i + 2 ≤ length (now wires) ⌝ }
+    requires { ⌜ hp + 2 ≤ length (now heap) ⌝ }
+    ensures { λ _. ⌜ now (heap .exit) ≡ set (set (now (heap .entry)) hp (getD (now (wires .entry)) i 0)) (hp + 1) (getD (now (wires .entry)) (i + 1) 0) ⌝ }
+{
+    heap[hp] = wires[i];
+    heap[hp + 1] = wires[i + 1];
+}
+
+// The n words from a place on, to a lower one, or to where they stand.
+fn move_down(heap: &mut [u32], from: usize, to: usize, n: usize)
+    requires { ⌜ to ≤ from ⌝ }
+    requires { ⌜ from + n ≤ length (now heap) ⌝ }
+    ensures { λ _. ⌜ Laid to (from + n) (take n (drop from (now (heap .entry)))) (now (heap .entry)) (now (heap .exit)) ⌝ }
+{
+    if to == from {
+        return;
+    }
+    let mut j = 0;
+    while j < n {
+        let w = heap[from + j];
+        heap[to + j] = w;
+        j += 1;
+    }
+}
+
+// The value on a wire, placed from hp on: the word that refers to it. What is from `end` on is left.
+pub(crate) fn place(wires: &[u32], i: usize, heap: &mut [u32], hp: usize, end: usize) -> u32
+    requires { ⌜ CellHere (now wires) i hp end (length (now heap)) ⌝ }
+    ensures { λ r. ⌜ ((k : CellHere (now (wires .entry)) i hp end (length (now (heap .entry)))) → Copied (k .value) hp end (now (heap .entry)) r (now (heap .exit))) ⌝ }
+{
+    let h = wires[i];
+    if h == 458752 {
+        return 536870912;
+    }
+    if h < 262144 {
+        place_pair(wires, i, heap, hp);
+        return 268435456 + hp as u32;
+    }
+    let placed = place_block(&*wires, i, heap, hp, end);
+    placed.word
+}
+
+// "A copy to the heap places all fields, in order, before their object, so fields always refer lower." The references to the
+// fields wait at the end of the room, since where their object goes is known after them: so it takes no memory of its own.
+fn place_block(wires: &[u32], from: usize, heap: &mut [u32], hp: usize, end: usize) -> Placed
+    requires { ⌜ BlockHere (now wires) from hp end (length (now heap)) ⌝ }
+    ensures { λ r. ⌜ ((k : BlockHere (now (wires .entry)) from hp end (length (now (heap .entry)))) → CellPlaced (block (k .header) (k .values)) from hp end (now (heap .entry)) (r .next) (r .top) (r .word) (now (heap .exit))) ⌝ }
+{
+    let n = wires[from + 1] as usize;
+    let base = end - n;
+    let mut i = from + 2;
+    let mut top = hp;
+    let mut k = 0;
+    while k < n {
+        let cell = place_cell(wires, i, heap, top, base);
+        i = cell.next;
+        top = cell.top;
+        heap[base + k] = cell.word;
+        k += 1;
+    }
+    place_pair(wires, from, heap, top);
+    move_down(heap, base, top + 2, n);
+    Placed {
+        next: i,
+        top: top + 2 + n,
+        word: 268435456 + top as u32,
+    }
+}
+
+// A field, with what follows it.
+fn place_cell(wires: &[u32], i: usize, heap: &mut [u32], hp: usize, end: usize) -> Placed
+    requires { ⌜ CellHere (now wires) i hp end (length (now heap)) ⌝ }
+    ensures { λ r. ⌜ ((k : CellHere (now (wires .entry)) i hp end (length (now (heap .entry)))) → CellPlaced (k .value) i hp end (now (heap .entry)) (r .next) (r .top) (r .word) (now (heap .exit))) ⌝ }
 {
     let h = wires[i];
     if h == 458752 {
@@ -50,39 +116,13 @@ pub(crate) fn place_cell(wires: &[u32], i: usize, heap: &mut [u32], hp: usize) -
             word: 536870912,
         };
     }
-    let x = wires[i + 1];
     if h < 262144 {
-        heap[hp] = h;
-        heap[hp + 1] = x;
+        place_pair(wires, i, heap, hp);
         return Placed {
             next: i + 2,
             top: hp + 2,
             word: 268435456 + hp as u32,
         };
     }
-    let n = x as usize;
-    let fields = place_fields(wires, i + 2, n, 2, heap, hp);
-    let at = fields.top;
-    heap[at] = h;
-    heap[at + 1] = x;
-    Placed {
-        next: fields.next,
-        top: at + 2 + n,
-        word: 268435456 + at as u32,
-    }
-}
-
-// The n fields from i on; the reference to the first goes j places past the words of the last, the next one follows it.
-fn place_fields(wires: &[u32], i: usize, n: usize, j: usize, heap: &mut [u32], hp: usize) -> After
-    requires { ⌜ FieldsHere (now wires) i n j (length (now heap)) hp ⌝ }
-    ensures { λ r. ⌜ ((k : FieldsHere (now (wires .entry)) i n j (length (now (heap .entry))) hp) → FieldsPlaced (k .values) i j hp (now (heap .entry)) (r .next) (r .top) (now (heap .exit))) ⌝ }
-{
-    if n == 0 {
-        return After { next: i, top: hp };
-    }
-    let cell = place_cell(wires, i, heap, hp);
-    let after = place_fields(wires, cell.next, n - 1, j + 1, heap, cell.top);
-    let at = after.top + j;
-    heap[at] = cell.word;
-    after
+    place_block(&*wires, i, heap, hp, end)
 }

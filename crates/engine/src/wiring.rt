@@ -1,7 +1,7 @@
 // Instructions that read and write wires.
 use super::Ending;
 use super::placing::count_words;
-use super::placing::place_cell;
+use super::placing::place;
 use super::regs::Limits;
 use super::regs::Regs;
 use super::regs::Turn;
@@ -184,8 +184,7 @@ impl Regs {
         next.pc = self.pc + 1;
         let turn = self.charge(lim, cost, next);
         if turn.go {
-            let placed = place_cell(wires, at + 1, heap, hp);
-            stack[sp] = placed.word;
+            stack[sp] = place(wires, at + 1, heap, hp, hp + grown);
         }
         turn
     }

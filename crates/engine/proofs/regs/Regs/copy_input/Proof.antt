@@ -1,5 +1,5 @@
 use mathlib.Core.Path.{refl}
-use Prim.Native.Nat.{_+_, _*_, _^_, _≤_, _<_}
+use Prim.Native.Nat.{_+_, _*_, _≤_}
 use native.Mathlib.Omega.{arith}
 use lib.ListN.{length}
 use Rattle.laws.specs.Sizes.{size}
@@ -67,14 +67,21 @@ add-next-3 c = search needs
 charge-requires : tie.Need-charge-requires
 charge-requires c κs = search needs
 
-add-place-cell : tie.Need-add-place-cell
-add-place-cell c =
+add-place : tie.Need-add-place
+add-place c =
     let start = c .before .before .before .before .before .before .before .before .before in
     let if1 = c .before .before .before .before .if1 in
     let u = input-at (start .pre .1 .1 .1) (if1 .left) in omega (arith, u .inside, start .good)
 
-place-cell-requires : tie.Need-place-cell-requires
-place-cell-requires c κs =
+add-place-2 : tie.Need-add-place-2
+add-place-2 c =
+    let start = c .before .before .before .before .before .before .before .before .before .before in
+    let charge = c .before .before .charge in
+    let if2 = c .before .if2 in
+    let pd = went-on (charge .ensures) (if2 .taken) in omega (arith, pd .heap, start .pre .0 .heap-cap)
+
+place-requires : tie.Need-place-requires
+place-requires c κs =
     let start = c .before .before .before .before .before .before .before .before .before .before in
     let if1 = c .before .before .before .before .before .if1 in
     let count-words = c .before .before .before .before .count-words in
@@ -83,9 +90,7 @@ place-cell-requires c κs =
     let u = input-at (start .pre .1 .1 .1) (if1 .left) in
     let e = input-size u _ (count-words .ensures) in
     let pd = went-on (charge .ensures) (if2 .taken) in
-    let fits : start .args .self .hp + size (u .value) ≤ length (start .args .heap .now) = omega (arith, e, pd .heap, start .pre .1 .1 .0) in
-    let low : start .args .self .hp + size (u .value) < 2 ^ 28 = omega (arith, e, pd .heap, start .pre .0 .heap-cap) in
-    input-here u _ _ fits low
+    input-here u _ _ _ (omega (arith, e)) (omega (arith, pd .heap, start .pre .0 .heap-cap)) (omega (arith, pd .heap, start .pre .1 .1 .0))
 
 mul-stack : tie.Need-mul-stack
 mul-stack c = search needs
@@ -110,19 +115,18 @@ returns-2 c =
     let count-words = c .before .before .before .before .before .before .before .count-words in
     let charge = c .before .before .before .before .before .charge in
     let if2 = c .before .before .before .before .if2 in
-    let place-cell = c .before .before .place-cell in
+    let place = c .before .before .place in
     λ or. record {
       each = λ ws hs h m n.
           let u = input-at (start .pre .1 .1 .1) (if1 .left) in
           let e = input-size u _ (count-words .ensures) in
           let pd = went-on (charge .ensures) (if2 .taken) in
           let fits : start .args .self .hp + size (u .value) ≤ length (start .args .heap .now) = omega (arith, e, pd .heap, start .pre .1 .1 .0) in
-          let low : start .args .self .hp + size (u .value) < 2 ^ 28 = omega (arith, e, pd .heap, start .pre .0 .heap-cap) in
-          let p = input-placed u fits low (place-cell .ensures) in
+          let p = input-placed u (omega (arith, e)) (omega (arith, pd .heap, start .pre .0 .heap-cap)) (omega (arith, pd .heap, start .pre .1 .1 .0)) (place .ensures) in
           settle-yes (copy-leads (start .pre .0) h _ or _ u _ _ (if1 .left) e) _ _ (charge .ensures) (if2 .taken)
           (λ x y. record {
             stack = copy-stack (start .pre .0) h _ or (start .args .a) u p (omega (arith, pd .depth, start .pre .1 .0));
-            heap = copy-heap (start .pre .0) h _ or (start .args .a) u p fits;
+            heap = copy-heap (start .pre .0) h _ or (start .args .a) u p (omega (arith, e)) fits;
             wires = refl;
             order = refl;
           });
@@ -158,8 +162,9 @@ copy-input-spec =
     add-next-2
     add-next-3
     charge-requires
-    add-place-cell
-    place-cell-requires
+    add-place
+    add-place-2
+    place-requires
     mul-stack
     slice-write-stack
     same-length

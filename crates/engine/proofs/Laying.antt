@@ -1,0 +1,144 @@
+-- Words laid out in an area, one after the other.
+use mathlib.Core.Path.{_≡_, refl, sym, ap, _∙_}
+use mathlib.Core.List.{List, [], _∷_, _++_, append-assoc, append-nil}
+use Prim.Native.Nat.{ℕ, suc, _+_, _-_, _≤_, _<_}
+use native.Mathlib.Omega.{arith}
+use native.Mathlib.Nat.{add-zero}
+use native.Mathlib.Numerals.{add-one}
+use lib.ListN.{length, getD, set, take, drop, length-append, length-drop, take-append-drop}
+use lib.Seq.{sets, sets-eq, take-at, drop-at, take-add, take-suc, take-suc-set, take-set-le, drop-set-lt, drop-set-add, getD-drop, length-take-le, drop-drop}
+use Rattle.engine.specs.Copies.{Laid}
+
+-- what is the same from one place on is so from a later one on
+drop-later : (e f : ℕ) (l l' : List ℕ) → e ≤ f → drop e l' ≡ drop e l → drop f l' ≡ drop f l
+drop-later e f l l' h same =
+    let z : e + (f - e) ≡ f = omega arith in
+    sym (ap (λ (n : ℕ). drop n l') z)
+    ∙ sym (drop-drop (f - e) e l')
+    ∙ ap (λ (x : List ℕ). drop (f - e) x) same
+    ∙ drop-drop (f - e) e l
+    ∙ ap (λ (n : ℕ). drop n l) z
+
+pub laid-none : (at end : ℕ) (l : List ℕ) → Laid at end [] l l
+laid-none at end l = record { below = rw (add-zero at, append-nil (take at l)) refl; above = refl }
+
+pub laid-wide : {at end later : ℕ} {ws l l' : List ℕ} → end ≤ later → Laid at end ws l l' → Laid at later ws l l'
+laid-wide {at} {end} {later} {ws} {l} {l'} h a =
+    record { below = a .below; above = drop-later end later l l' h (a .above) }
+
+-- one after the other
+pub laid-then : {at mid end : ℕ} {a b l l₁ l₂ : List ℕ} → mid ≡ at + length a → Laid at end a l l₁ → Laid mid end b l₁ l₂
+    → Laid at end (a ++ b) l l₂
+laid-then {at} {mid} {end} {a} {b} {l} {l₁} {l₂} e x y =
+    let n : at + length (a ++ b) ≡ mid + length b = let z = length-append a b in omega arith in
+    record {
+      below =
+          ap (λ (k : ℕ). take k l₂) n
+          ∙ y .below
+          ∙ ap (λ (k : ℕ). take k l₁ ++ b) e
+          ∙ ap (λ (z : List ℕ). z ++ b) (x .below)
+          ∙ append-assoc (take at l) a b;
+      above = y .above ∙ x .above;
+    }
+
+-- a store after them
+pub laid-set : {at end : ℕ} {ws l l' : List ℕ} (j x : ℕ) → at + length ws ≤ j → j < end → Laid at end ws l l'
+    → Laid at end ws l (set l' j x)
+laid-set {at} {end} {ws} {l} {l'} j x h k a =
+    record {
+      below = take-set-le (at + length ws) l' j x h ∙ a .below;
+      above = drop-set-lt end l' j x k ∙ a .above;
+    }
+
+module _ (at : ℕ) (ws l : List ℕ) (h : at + length ws ≤ length l) where
+  front : length (take at l ++ ws) ≡ at + length ws
+  front =
+      let a = length-append (take at l) ws in
+      let b = length-take-le at l (omega arith) in
+      omega arith
+
+  -- stores in a row
+  pub laid-sets : (end : ℕ) → at + length ws ≤ end → Laid at end ws l (sets l at ws)
+  laid-sets end k =
+      record {
+        below = rw (sets-eq ws l at h) (take-at (take at l ++ ws) (drop (at + length ws) l) (at + length ws) front);
+        above =
+            drop-later (at + length ws) end l (sets l at ws) k
+            (rw (sets-eq ws l at h) (drop-at (take at l ++ ws) (drop (at + length ws) l) (at + length ws) front));
+      }
+
+  -- and where nothing is left open, they are all that was stored
+  pub laid-whole : {l' : List ℕ} → Laid at (at + length ws) ws l l' → l' ≡ sets l at ws
+  laid-whole {l'} a =
+      sym (take-append-drop (at + length ws) l')
+      ∙ ap (λ (z : List ℕ). z ++ drop (at + length ws) l') (a .below)
+      ∙ ap (λ (z : List ℕ). (take at l ++ ws) ++ z) (a .above)
+      ∙ sym (sets-eq ws l at h)
+
+pub laid-pair : (at end h x : ℕ) (l : List ℕ) → at + 2 ≤ end → at + 2 ≤ length l
+    → Laid at end (h ∷ x ∷ []) l (set (set l at h) (at + 1) x)
+laid-pair at end h x l k i = rw add-one (laid-sets at (h ∷ x ∷ []) l i end k)
+
+-- ---- words moved to a lower place
+
+module _ (from to : ℕ) (l : List ℕ) where
+  moved-long : (n : ℕ) → from + n ≤ length l → length (take n (drop from l)) ≡ n
+  moved-long n h = let a = length-drop from l in length-take-le n (drop from l) (omega arith)
+
+  pub moved-none : Laid to (from + 0) (take 0 (drop from l)) l l
+  moved-none = laid-none to (from + 0) l
+
+  pub moved-next : (j : ℕ) {l' : List ℕ} → to ≤ from → from + j < length l → length l' ≡ length l
+      → Laid to (from + j) (take j (drop from l)) l l'
+      → Laid to (from + (j + 1)) (take (j + 1) (drop from l)) l (set l' (to + j) (getD l' (from + j) 0))
+  moved-next j {l'} h i e a =
+      let x = getD l' (from + j) 0 in
+      let ws = take j (drop from l) in
+      let n : length ws ≡ j = moved-long j (omega arith) in
+      let m : length (take (j + 1) (drop from l)) ≡ j + 1 = moved-long (j + 1) (omega arith) in
+      let d = length-drop from l in
+      let z : from + j + 0 ≡ from + j = omega arith in
+      let was : x ≡ getD (drop from l) j 0 =
+      sym (rw z at (getD-drop (from + j) l' 0 0))
+      ∙ ap (λ (y : List ℕ). getD y 0 0) (a .above)
+      ∙ (rw z at (getD-drop (from + j) l 0 0))
+      ∙ sym (getD-drop from l j 0) in
+      let more : take (j + 1) (drop from l) ≡ ws ++ x ∷ [] =
+      ap (λ (y : ℕ). take y (drop from l)) (add-one j)
+      ∙ take-suc (drop from l) j 0 (omega arith)
+      ∙ ap (λ (y : ℕ). ws ++ y ∷ []) (sym was) in
+      let s : to + length (take (j + 1) (drop from l)) ≡ suc (to + j) = omega arith in
+      record {
+        below =
+            ap (λ (y : ℕ). take y (set l' (to + j) x)) s
+            ∙ take-suc-set l' (to + j) x (omega arith)
+            ∙ ap (λ (y : ℕ). take (to + y) l' ++ x ∷ []) (sym n)
+            ∙ ap (λ (y : List ℕ). y ++ x ∷ []) (a .below)
+            ∙ append-assoc (take to l) ws (x ∷ [])
+            ∙ ap (λ (y : List ℕ). take to l ++ y) (sym more);
+        above =
+            drop-set-lt (from + (j + 1)) l' (to + j) x (omega arith)
+            ∙ drop-later (from + j) (from + (j + 1)) l l' (omega arith) (a .above);
+      }
+
+  -- words that stand there already
+  pub moved-there : (n : ℕ) → to ≡ from → from + n ≤ length l → Laid to (from + n) (take n (drop from l)) l l
+  moved-there n e h =
+      record {
+        below =
+            ap (λ (k : ℕ). take (to + k) l) (moved-long n h)
+            ∙ take-add to n l
+            ∙ ap (λ (k : ℕ). take to l ++ take n (drop k l)) e;
+        above = refl;
+      }
+
+-- ---- words that wait
+
+-- one more
+pub waits-next : (base k x : ℕ) (l : List ℕ) → base + k < length l
+    → take (k + 1) (drop base (set l (base + k) x)) ≡ take k (drop base l) ++ x ∷ []
+waits-next base k x l h =
+    let d = length-drop base l in
+    ap (λ (y : ℕ). take y (drop base (set l (base + k) x))) (add-one k)
+    ∙ ap (λ (y : List ℕ). take (suc k) y) (drop-set-add base l k x)
+    ∙ take-suc-set (drop base l) k x (omega arith)
