@@ -1,14 +1,14 @@
--- Copying a value from a wire to the heap: stores in a row, what the wire has where a cell or a list of fields begins, and
--- what CopyInput leads to.
+-- Copying a value from a wire to the heap: what the wire has where a cell or a block's fields begin, and what CopyInput leads
+-- to.
 use mathlib.Core.Path.{_≡_, refl, sym, ap, _∙_, subst}
 use mathlib.Core.Bool.{false, not}
 use mathlib.Core.List.{List, [], _∷_, _++_, map, append-assoc, append-nil}
 use Prim.Native.Nat.{ℕ, suc, _+_, _-_, _*_, _^_, _≤_, _<_}
 use native.Mathlib.Omega.{arith}
-use native.Mathlib.Nat.{add-zero, ne-of-gt}
+use native.Mathlib.Nat.{add-zero}
 use lib.Dec.{T, eqb, eqb→eq, T-not, not-T}
 use lib.ListN.{length, getD, set, take, drop, length-append, length-drop, length-map, length-set, take-append-drop}
-use lib.Seq.{sets, take-set-le, drop-set-lt, set-comm, getD-take, getD-drop, length-take-le, drop-drop, drop-append-seam, append-snoc}
+use lib.Seq.{sets, drop-set-lt, getD-take, getD-drop, length-take-le, drop-drop, drop-append-seam, append-snoc}
 use Rattle.limits.specs.Machine.{goes}
 use Rattle.hume.specs.Words.{Word, none, ref, raw, bits, noneHeader, tupleHeader}
 use Rattle.hume.specs.Values.{Value, nothing, atom, block, Values, end, more, count, blockOk, good, goods, prefix, prefixes, placed, placedAll, refers, refersAll, row, first, isNothing, wireCount, wireWords, isEmpty}
@@ -35,29 +35,6 @@ use Rattle.engine.proofs.Areas.{bears-push, locals-append}
 use Rattle.engine.proofs.Laying.{laid-none, laid-wide, laid-then, laid-set, laid-pair, laid-whole, waits-next}
 
 -- ---- stores in a row
-
--- one row after the other is one row
-pub sets-append : (l : List ℕ) (i : ℕ) (a b : List ℕ) → sets (sets l i a) (i + length a) b ≡ sets l i (a ++ b)
-sets-append l i [] b = ap (λ (k : ℕ). sets l k b) (add-zero i)
-sets-append l i (x ∷ a) b =
-    let e : i + suc (length a) ≡ suc i + length a = omega arith in
-    ap (λ (k : ℕ). sets (sets (set l i x) (suc i) a) k b) e ∙ sets-append (set l i x) (suc i) a b
-
--- what is before a row, and what is after it
-pub take-sets : (n : ℕ) (l : List ℕ) (i : ℕ) (a : List ℕ) → n ≤ i → take n (sets l i a) ≡ take n l
-take-sets n l i [] h = refl
-take-sets n l i (x ∷ a) h = take-sets n (set l i x) (suc i) a (omega arith) ∙ take-set-le n l i x h
-
-pub drop-sets : (n : ℕ) (l : List ℕ) (i : ℕ) (a : List ℕ) → i + length a ≤ n → drop n (sets l i a) ≡ drop n l
-drop-sets n l i [] h = refl
-drop-sets n l i (x ∷ a) h = drop-sets n (set l i x) (suc i) a (omega arith) ∙ drop-set-lt n l i x (omega arith)
-
--- a store below a row may come first
-pub set-sets : (l : List ℕ) (m k x : ℕ) (b : List ℕ) → k < m → set (sets l m b) k x ≡ sets (set l k x) m b
-set-sets l m k x [] h = refl
-set-sets l m k x (y ∷ b) h =
-    set-sets (set l m y) (suc m) k x b (omega arith)
-    ∙ ap (λ (z : List ℕ). sets z (suc m) b) (set-comm l m k y x (ne-of-gt h))
 
 -- the words that are stored bear the words
 pub bears-sets : (l : List ℕ) (hs g : List Word) → Bears l hs → length hs + length g ≤ length l

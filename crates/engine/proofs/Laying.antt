@@ -1,13 +1,40 @@
--- Words laid out in an area, one after the other.
+-- Words stored in an area one after the other, and what is left open beside them.
 use mathlib.Core.Path.{_≡_, refl, sym, ap, _∙_}
 use mathlib.Core.List.{List, [], _∷_, _++_, append-assoc, append-nil}
 use Prim.Native.Nat.{ℕ, suc, _+_, _-_, _≤_, _<_}
 use native.Mathlib.Omega.{arith}
-use native.Mathlib.Nat.{add-zero}
+use native.Mathlib.Nat.{add-zero, ne-of-gt}
 use native.Mathlib.Numerals.{add-one}
 use lib.ListN.{length, getD, set, take, drop, length-append, length-drop, take-append-drop}
-use lib.Seq.{sets, sets-eq, take-at, drop-at, take-add, take-suc, take-suc-set, take-set-le, drop-set-lt, drop-set-add, getD-drop, length-take-le, drop-drop}
+use lib.Seq.{sets, sets-eq, set-comm, take-at, take-add, take-suc, take-suc-set, take-set-le, drop-set-lt, drop-set-add, getD-drop, length-take-le, drop-drop}
 use Rattle.engine.specs.Copies.{Laid}
+
+-- ---- stores in a row
+
+-- one row after the other is one row
+pub sets-append : (l : List ℕ) (i : ℕ) (a b : List ℕ) → sets (sets l i a) (i + length a) b ≡ sets l i (a ++ b)
+sets-append l i [] b = ap (λ (k : ℕ). sets l k b) (add-zero i)
+sets-append l i (x ∷ a) b =
+    let e : i + suc (length a) ≡ suc i + length a = omega arith in
+    ap (λ (k : ℕ). sets (sets (set l i x) (suc i) a) k b) e ∙ sets-append (set l i x) (suc i) a b
+
+-- what is before a row, and what is after it
+pub take-sets : (n : ℕ) (l : List ℕ) (i : ℕ) (a : List ℕ) → n ≤ i → take n (sets l i a) ≡ take n l
+take-sets n l i [] h = refl
+take-sets n l i (x ∷ a) h = take-sets n (set l i x) (suc i) a (omega arith) ∙ take-set-le n l i x h
+
+pub drop-sets : (n : ℕ) (l : List ℕ) (i : ℕ) (a : List ℕ) → i + length a ≤ n → drop n (sets l i a) ≡ drop n l
+drop-sets n l i [] h = refl
+drop-sets n l i (x ∷ a) h = drop-sets n (set l i x) (suc i) a (omega arith) ∙ drop-set-lt n l i x (omega arith)
+
+-- a store below a row may come first
+pub set-sets : (l : List ℕ) (m k x : ℕ) (b : List ℕ) → k < m → set (sets l m b) k x ≡ sets (set l k x) m b
+set-sets l m k x [] h = refl
+set-sets l m k x (y ∷ b) h =
+    set-sets (set l m y) (suc m) k x b (omega arith)
+    ∙ ap (λ (z : List ℕ). sets z (suc m) b) (set-comm l m k y x (ne-of-gt h))
+
+-- ---- words laid out
 
 -- what is the same from one place on is so from a later one on
 drop-later : (e f : ℕ) (l l' : List ℕ) → e ≤ f → drop e l' ≡ drop e l → drop f l' ≡ drop f l
@@ -62,9 +89,7 @@ module _ (at : ℕ) (ws l : List ℕ) (h : at + length ws ≤ length l) where
   laid-sets end k =
       record {
         below = rw (sets-eq ws l at h) (take-at (take at l ++ ws) (drop (at + length ws) l) (at + length ws) front);
-        above =
-            drop-later (at + length ws) end l (sets l at ws) k
-            (rw (sets-eq ws l at h) (drop-at (take at l ++ ws) (drop (at + length ws) l) (at + length ws) front));
+        above = drop-sets end l at ws k;
       }
 
   -- and where nothing is left open, they are all that was stored

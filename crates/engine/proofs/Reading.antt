@@ -18,7 +18,7 @@ use Rattle.laws.proofs.Small.{raw-bits}
 use Rattle.laws.proofs.Objects.{Block, whole-inside, whole-block, field-held, spread-none, spread-enough}
 use Rattle.engine.specs.Copies.{Readable, FieldsReadable, spreads, spreadsAll, Spread}
 use Rattle.engine.specs.Turns.{Bears, Smalls}
-use Rattle.engine.proofs.Copying.{sets-append}
+use Rattle.engine.proofs.Laying.{sets-append}
 use Rattle.engine.proofs.Outputs.{none-bits}
 
 -- ---- the words that an area bears

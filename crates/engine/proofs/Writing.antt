@@ -34,7 +34,8 @@ use Rattle.engine.specs.declared.wiring.Room.{Room}
 use Rattle.engine.proofs.Turning.{Leads, stops, values-are, reads-below}
 use Rattle.engine.proofs.Areas.{locals-take}
 use Rattle.engine.proofs.Moving.{stacked}
-use Rattle.engine.proofs.Copying.{take-sets, drop-sets, set-sets, wire-fits}
+use Rattle.engine.proofs.Laying.{take-sets, drop-sets, set-sets}
+use Rattle.engine.proofs.Copying.{wire-fits}
 use Rattle.engine.proofs.WordKinds.{not-so}
 use Rattle.engine.proofs.Reading.{bears-one, spread-some}
 use Rattle.engine.proofs.Outputs.{cleared, lead-wired, none-bits, bits-none}
