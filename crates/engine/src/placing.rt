@@ -59,7 +59,8 @@ fn move_down(heap: &mut [u32], from: usize, to: usize, n: usize)
     }
 }
 
-// The value on a wire, placed from hp on: the word that refers to it. What is from `end` on is left.
+// The value on a wire, placed from hp on: the word that refers to it. What is from `end` on is left. It tells atoms from blocks
+// itself, so that an atom is placed without a call.
 pub(crate) fn place(wires: &[u32], i: usize, heap: &mut [u32], hp: usize, end: usize) -> u32
     requires { ⌜ CellHere (now wires) i hp end (length (now heap)) ⌝ }
     ensures { λ r. ⌜ ((k : CellHere (now (wires .entry)) i hp end (length (now (heap .entry)))) → Copied (k .value) hp end (now (heap .entry)) r (now (heap .exit))) ⌝ }
@@ -76,8 +77,9 @@ pub(crate) fn place(wires: &[u32], i: usize, heap: &mut [u32], hp: usize, end: u
     placed.word
 }
 
-// "A copy to the heap places all fields, in order, before their object, so fields always refer lower." The references to the
-// fields wait at the end of the room, since where their object goes is known after them: so it takes no memory of its own.
+// "A copy to the heap places all fields, in order, before their object, so fields always refer lower." The copier of a list of
+// fields, with their object; it and that of a cell call each other, and the wire words that remain fall. The references to the
+// fields wait at the end of the room, since where their object goes is known after them: so they take no memory of their own.
 fn place_block(wires: &[u32], from: usize, heap: &mut [u32], hp: usize, end: usize) -> Placed
     requires { ⌜ BlockHere (now wires) from hp end (length (now heap)) ⌝ }
     ensures { λ r. ⌜ ((k : BlockHere (now (wires .entry)) from hp end (length (now (heap .entry)))) → CellPlaced (block (k .header) (k .values)) from hp end (now (heap .entry)) (r .next) (r .top) (r .word) (now (heap .exit))) ⌝ }
@@ -103,7 +105,7 @@ fn place_block(wires: &[u32], from: usize, heap: &mut [u32], hp: usize, end: usi
     }
 }
 
-// A field, with what follows it.
+// The copier of a cell.
 fn place_cell(wires: &[u32], i: usize, heap: &mut [u32], hp: usize, end: usize) -> Placed
     requires { ⌜ CellHere (now wires) i hp end (length (now heap)) ⌝ }
     ensures { λ r. ⌜ ((k : CellHere (now (wires .entry)) i hp end (length (now (heap .entry)))) → CellPlaced (k .value) i hp end (now (heap .entry)) (r .next) (r .top) (r .word) (now (heap .exit))) ⌝ }

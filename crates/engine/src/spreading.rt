@@ -31,7 +31,8 @@ pub(crate) fn spread(heap: &[u32], w: u32, wires: &mut [u32], at: usize) -> usiz
     spread_block(&*heap, w, wires, at + 1, at + 65) - (at + 1)
 }
 
-// A Tuple, Constr or Exn from the index `at` on: the index after it, or end + 1 if it doesn't end before.
+// The copier of a list of fields, with the two words of their object before them; it and that of a cell call each other, and the
+// wire words that remain fall. The index after them, or end + 1 if they don't end before.
 fn spread_block(heap: &[u32], w: u32, wires: &mut [u32], at: usize, end: usize) -> usize
     requires { ⌜ Readable (now heap) w ⌝ }
     requires { ⌜ (w ≡ 2 ^ 29 → ⊥) ⌝ }
@@ -56,7 +57,7 @@ fn spread_block(heap: &[u32], w: u32, wires: &mut [u32], at: usize, end: usize) 
     out
 }
 
-// The same of any word that is a reference or None.
+// The copier of a cell: any word that is a reference or None.
 fn spread_cell(heap: &[u32], w: u32, wires: &mut [u32], at: usize, end: usize) -> usize
     requires { ⌜ Readable (now heap) w ⌝ }
     requires { ⌜ at ≤ end ⌝ }
