@@ -23,7 +23,7 @@ use Rattle.laws.proofs.Deeds.{need-yes, need-no}
 use Rattle.laws.proofs.Values.{atom-header, block-header, length-placed, length-placedAll, prefix-least, one-value, size-heads, size-most, heads-at-none, heads-at-cell, heads-at-end}
 use Rattle.laws.proofs.Wires.{wire-full}
 use Rattle.engine.specs.Fits.{Fit}
-use Rattle.engine.specs.Copies.{WireFits, Laid, CellHere, BlockHere, Copied, CellPlaced, Filling}
+use Rattle.engine.specs.Copies.{WireFits, Laid, CellHere, BlockHere, Copied, CellPlaced}
 use Rattle.engine.specs.Turns.{Bears, core, Holds, halt, Buffers, Turned, priced}
 use Rattle.engine.specs.declared.Ending.the-variants as ending
 use Rattle.engine.specs.declared.regs.Limits.{Limits}
@@ -259,6 +259,25 @@ module _ {w : List ℕ} {i hp stop room : ℕ} (k : CellHere w i hp stop room) w
       block-placed w i hp stop room (k .value) (k .rest) (k .good) (k .here) (k .fits) (k .low) (k .inside) n b d
 
 -- ---- a block's fields, one after the other
+
+-- k of the values vs are placed from hp on, and the references to them wait from `base` on: i and top are where the others
+-- begin, on the wire and on the heap.
+pub record Filling (w : List ℕ) (vs : Values) (from hp base stop : ℕ) (he : List ℕ) (k i top : ℕ) (he' : List ℕ) : Type 0 where
+  pub others : Values
+  pub rest : List ℕ
+  pub done : List Word
+  pub refs : List Word
+  pub good : T (goods others)
+  pub here : drop i w ≡ prefixes others ++ rest
+  pub many : k + count others ≡ count vs
+  pub next-is : i + length (prefixes others) ≡ from + length (prefixes vs)
+  pub top-is : top + sizes others ≡ hp + sizes vs
+  pub done-is : done ++ placedAll others top ≡ placedAll vs hp
+  pub refs-is : refs ++ refersAll others top ≡ refersAll vs hp
+  pub done-long : hp + length done ≡ top
+  pub refs-long : length refs ≡ k
+  pub laid : Laid hp stop (map bits done) he he'
+  pub waiting : take k (drop base he') ≡ map bits refs
 
 module _ (w : List ℕ) (from hp base stop : ℕ) (he : List ℕ) (k i top : ℕ) (he' : List ℕ) where
   -- the next field, where there is one

@@ -16,7 +16,7 @@ use Rattle.laws.specs.Whole.{Whole, Field, Held, none-held, ref-held}
 use Rattle.laws.proofs.Words.{none-is}
 use Rattle.laws.proofs.Small.{raw-bits}
 use Rattle.laws.proofs.Objects.{Block, whole-inside, whole-block, field-held, spread-none, spread-enough}
-use Rattle.engine.specs.Copies.{Readable, FieldsReadable, spreads, spreadsAll, Spread}
+use Rattle.engine.specs.Copies.{Readable, spreads, Spread}
 use Rattle.engine.specs.Turns.{Bears, Smalls}
 use Rattle.engine.proofs.Laying.{sets-append}
 use Rattle.engine.proofs.Outputs.{none-bits}
@@ -80,6 +80,20 @@ fields-spread hs p q (suc n) l each =
     let later = fields-spread hs p (suc q) n (omega arith)
     (λ i h. let s : suc q + i ≡ q + suc i = omega arith in rw s (each (suc i) (omega arith))) in
     rw (here, later) refl
+
+-- ---- the fields of an object
+
+-- The heap bears words that hold each of the n from the place q on.
+pub record FieldsReadable (he : List ℕ) (q n : ℕ) : Type 0 where
+  pub words : List Word
+  pub bears : Bears he words
+  pub smalls : Smalls words
+  pub inside : q + n ≤ length words
+  pub held : (i : ℕ) → i < n → Held words (getD words (q + i) null)
+
+-- what they spread out to
+abbrev pub spreadsAll : {he : List ℕ} {q n : ℕ} → FieldsReadable he q n → List ℕ
+spreadsAll {he} {q} {n} k = fieldsBy (spread (k .words)) (k .words) q n
 
 -- ---- a word, by its bits
 

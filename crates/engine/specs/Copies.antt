@@ -7,8 +7,8 @@ use lib.Dec.{T, leb, eqb}
 use lib.ListN.{length, getD, take, drop}
 use lib.Seq.{sets}
 use Rattle.hume.specs.Tests.{pick}
-use Rattle.hume.specs.Words.{Word, null, bits, isNone, isValue}
-use Rattle.hume.specs.Values.{Value, Values, count, good, goods, prefix, prefixes, placed, refers, placedAll, refersAll, fieldsBy, spread, wireOk}
+use Rattle.hume.specs.Words.{Word, bits, isNone, isValue}
+use Rattle.hume.specs.Values.{Value, Values, count, good, goods, prefix, prefixes, placed, refers, spread, wireOk}
 use Rattle.laws.specs.Sizes.{size, sizes, Small}
 use Rattle.laws.specs.Whole.{Held}
 use Rattle.engine.specs.Turns.{Bears, Smalls}
@@ -88,25 +88,6 @@ pub record CellPlaced (v : Value) (i hp end : ℕ) (he : List ℕ) (next top x :
   pub top-is : top ≡ hp + size v
   pub copied : Copied v hp end he x he'
 
--- k of the values vs are placed from hp on, and the references to them wait from `base` on: i and top are where the others
--- begin, on the wire and on the heap.
-pub record Filling (w : List ℕ) (vs : Values) (from hp base end : ℕ) (he : List ℕ) (k i top : ℕ) (he' : List ℕ) : Type 0 where
-  pub others : Values
-  pub rest : List ℕ
-  pub done : List Word
-  pub refs : List Word
-  pub good : T (goods others)
-  pub here : drop i w ≡ prefixes others ++ rest
-  pub many : k + count others ≡ count vs
-  pub next-is : i + length (prefixes others) ≡ from + length (prefixes vs)
-  pub top-is : top + sizes others ≡ hp + sizes vs
-  pub done-is : done ++ placedAll others top ≡ placedAll vs hp
-  pub refs-is : refs ++ refersAll others top ≡ refersAll vs hp
-  pub done-long : hp + length done ≡ top
-  pub refs-long : length refs ≡ k
-  pub laid : Laid hp end (map bits done) he he'
-  pub waiting : take k (drop base he') ≡ map bits refs
-
 -- ---- from the heap to a wire
 
 -- The heap bears words that hold the word of the bits x.
@@ -119,20 +100,9 @@ pub record Readable (he : List ℕ) (x : ℕ) : Type 0 where
   pub held : Held words word
   pub is : x ≡ bits word
 
--- It bears words that hold each of the n from the place q on.
-pub record FieldsReadable (he : List ℕ) (q n : ℕ) : Type 0 where
-  pub words : List Word
-  pub bears : Bears he words
-  pub smalls : Smalls words
-  pub inside : q + n ≤ length words
-  pub held : (i : ℕ) → i < n → Held words (getD words (q + i) null)
-
--- what the words spread out to
+-- what the word spreads out to
 abbrev pub spreads : {he : List ℕ} {x : ℕ} → Readable he x → List ℕ
 spreads k = spread (k .words) (k .word)
-
-abbrev pub spreadsAll : {he : List ℕ} {q n : ℕ} → FieldsReadable he q n → List ℕ
-spreadsAll {he} {q} {n} k = fieldsBy (spread (k .words)) (k .words) q n
 
 -- The words ws are spread from the index `at` on if they end at `end` or before: r is the index after them, or end + 1. Of
 -- words that don't, some may have been written, none of them at `end` or after.

@@ -2,8 +2,8 @@ use mathlib.Core.Path.{_≡_, refl, _∙_}
 use Prim.Native.Nat.{_+_, _-_, _*_, _≤_}
 use native.Mathlib.Omega.{arith}
 use lib.ListN.{length, length-set}
-use Rattle.engine.specs.Copies.{BlockHere, Filling}
-use Rattle.engine.proofs.Copying.{cell-inside, cell-inside-2, cell-none, cell-two, cell-atom, cell-block, cell-placed, block-inside, block-many, block-done, fill-none, fill-top, fill-cell, fill-next}
+use Rattle.engine.specs.Copies.{BlockHere}
+use Rattle.engine.proofs.Copying.{Filling, cell-inside, cell-inside-2, cell-none, cell-two, cell-atom, cell-block, cell-placed, block-inside, block-many, block-done, fill-none, fill-top, fill-cell, fill-next}
 use Prim.Native.Nat.{ℕ, _<_}
 use borrow.Fn.Kinds.{In}
 use borrow.Fn.PlainCycle.{Measures, is, falls, and}
