@@ -23,7 +23,7 @@ use Rattle.laws.proofs.Deeds.{need-yes, need-no}
 use Rattle.laws.proofs.Values.{atom-header, block-header, length-placed, length-placedAll, prefix-least, one-value, size-heads, size-most, heads-at-none, heads-at-cell, heads-at-end}
 use Rattle.laws.proofs.Wires.{wire-full}
 use Rattle.engine.specs.Fits.{Fit}
-use Rattle.engine.specs.Copies.{WireFits, Laid, CellHere, BlockHere, Copied, CellPlaced}
+use Rattle.engine.specs.Copies.{WireFits, Laid, CellHere, ValueHere, BlockHere, Copied, CellPlaced}
 use Rattle.engine.specs.Turns.{Bears, core, Holds, halt, Buffers, Turned, priced}
 use Rattle.engine.specs.declared.Ending.the-variants as ending
 use Rattle.engine.specs.declared.regs.Limits.{Limits}
@@ -32,7 +32,7 @@ use Rattle.engine.specs.declared.regs.Turn.{Turn}
 use Rattle.engine.proofs.After.{built}
 use Rattle.engine.proofs.Turning.{Leads, stops, lead-grown}
 use Rattle.engine.proofs.Areas.{bears-push, locals-append}
-use Rattle.engine.proofs.Laying.{laid-none, laid-wide, laid-then, laid-set, laid-pair, laid-whole, waits-next}
+use Rattle.engine.proofs.Laying.{laid-none, laid-wide, laid-then, laid-set, laid-sets, laid-pair, laid-whole, waits-next}
 
 -- ---- stores in a row
 
@@ -143,7 +143,8 @@ module _ (w : List ℕ) (i hp stop : ℕ) where
       record {
         next-is = refl;
         top-is = omega arith;
-        copied = record { word-is = bits-nothing; laid = laid-none hp stop he };
+        word-is = bits-nothing;
+        laid = laid-none hp stop he;
       }
   none-placed (atom h x) rest g e k he =
       absurd (let a = atom-header h x g in let b = first-at w i h (x ∷ rest) e in omega arith)
@@ -175,10 +176,8 @@ module _ (w : List ℕ) (i hp stop : ℕ) where
       record {
         next-is = refl;
         top-is = refl;
-        copied = record {
-          word-is = bits-ref hp;
-          laid = rw (p .one, p .two, bits-raw h, bits-raw x) (laid-pair hp stop h x he f (omega arith));
-        };
+        word-is = bits-ref hp;
+        laid = rw (p .one, p .two, bits-raw h, bits-raw x) (laid-pair hp stop h x he f (omega arith));
       }
   atom-placed (block h vs) rest g e k he f l =
       absurd
@@ -258,6 +257,19 @@ module _ {w : List ℕ} {i hp stop room : ℕ} (k : CellHere w i hp stop room) w
   cell-placed n b d =
       block-placed w i hp stop room (k .value) (k .rest) (k .good) (k .here) (k .fits) (k .low) (k .inside) n b d
 
+-- in room that is just the copy's
+pub value-placed : {w : List ℕ} {i hp stop room : ℕ} (k : ValueHere w i hp stop room) {next top x : ℕ} {he he' : List ℕ}
+    → length he ≡ room → CellPlaced (k .cell .value) i hp stop he next top x he' → Copied (k .cell .value) hp he x he'
+value-placed {w} {i} {hp} {stop} {room} k {next} {top} {x} {he} {he'} e p =
+    let v = k .cell .value in
+    let ws = map bits (placed v hp) in
+    let n : length ws ≡ size v = length-map (placed v hp) bits ∙ length-placed v hp in
+    let z : stop ≡ hp + length ws = k .exact ∙ ap (λ (y : ℕ). hp + y) (sym n) in
+    record {
+      word-is = p .word-is;
+      heap-is = laid-whole hp ws he (let a = k .cell .inside in omega arith) (rw z at (p .laid));
+    }
+
 -- ---- a block's fields, one after the other
 
 -- k of the values vs are placed from hp on, and the references to them wait from `base` on: i and top are where the others
@@ -321,7 +333,7 @@ module _ (w : List ℕ) (from hp base stop : ℕ) (he : List ℕ) (k i top : ℕ
       let b = bits-append done (placed v top) in
       let c = length-append done (placed v top) in
       let both : Laid hp stop (map bits (done ++ placed v top)) he he₁ =
-      rw b (laid-then (omega arith) la (laid-wide (omega arith) (p .copied .laid))) in
+      rw b (laid-then (omega arith) la (laid-wide (omega arith) (p .laid))) in
       let lb : length (map bits (done ++ placed v top)) ≡ length done + size v =
       length-map (done ++ placed v top) bits ∙ omega arith in
       record {
@@ -341,9 +353,9 @@ module _ (w : List ℕ) (from hp base stop : ℕ) (he : List ℕ) (k i top : ℕ
         laid = laid-set (base + k) x (omega arith) (omega arith) both;
         waiting =
             waits-next base k x he₁ (omega arith)
-            ∙ ap (λ (y : List ℕ). take k y ++ x ∷ []) (p .copied .laid .above)
+            ∙ ap (λ (y : List ℕ). take k y ++ x ∷ []) (p .laid .above)
             ∙ ap (λ (y : List ℕ). y ++ x ∷ []) wa
-            ∙ ap (λ (y : ℕ). map bits refs ++ y ∷ []) (p .copied .word-is)
+            ∙ ap (λ (y : ℕ). map bits refs ++ y ∷ []) (p .word-is)
             ∙ sym (bits-append refs (refers v top ∷ []));
       }
 
@@ -353,20 +365,23 @@ module _ (w : List ℕ) (from hp base stop : ℕ) (he : List ℕ) (k i top : ℕ
     top-is : top ≡ hp + sizes vs
     laid : Laid hp stop (map bits (placedAll vs hp)) he he'
     waiting : take k (drop base he') ≡ map bits (refersAll vs hp)
+    long : length (refersAll vs hp) ≡ k
 
   last-filled : (vs others : Values) (done refs : List Word) → k + count others ≡ count vs
       → i + length (prefixes others) ≡ from + length (prefixes vs) → top + sizes others ≡ hp + sizes vs
       → done ++ placedAll others top ≡ placedAll vs hp → refs ++ refersAll others top ≡ refersAll vs hp
-      → Laid hp stop (map bits done) he he' → take k (drop base he') ≡ map bits refs → k ≡ count vs → Full vs
+      → length refs ≡ k → Laid hp stop (map bits done) he he' → take k (drop base he') ≡ map bits refs → k ≡ count vs
+      → Full vs
   unfolding prefix placed size
-  last-filled vs end done refs m ni ti di ri la wa h =
+  last-filled vs end done refs m ni ti di ri rl la wa h =
       record {
         next-is = omega arith;
         top-is = omega arith;
         laid = rw (← di, append-nil done) la;
         waiting = rw (← ri, append-nil refs) wa;
+        long = rw (← ri, append-nil refs) rl;
       }
-  last-filled vs (more v us) done refs m ni ti di ri la wa h = absurd (omega arith)
+  last-filled vs (more v us) done refs m ni ti di ri rl la wa h = absurd (omega arith)
 
 -- ---- the same, from the records alone
 
@@ -394,7 +409,7 @@ module _ {w : List ℕ} {vs : Values} {from hp base stop : ℕ} {he : List ℕ} 
   filled : k ≡ count vs → Full w from hp base stop he k i top he' vs
   filled h =
       last-filled w from hp base stop he k i top he' vs (f .others) (f .done) (f .refs) (f .many) (f .next-is) (f .top-is)
-      (f .done-is) (f .refs-is) (f .laid) (f .waiting) h
+      (f .done-is) (f .refs-is) (f .refs-long) (f .laid) (f .waiting) h
 
 module _ {w : List ℕ} {from hp stop room : ℕ} (b : BlockHere w from hp stop room) where
   abbrev n : ℕ
@@ -433,7 +448,7 @@ module _ {w : List ℕ} {from hp stop room : ℕ} (b : BlockHere w from hp stop 
   pub block-done : {base k i top : ℕ} {he he₁ he₂ he₃ : List ℕ} → Filling w (b .values) (from + 2) hp base stop he k i top he₁
       → k ≡ getD w (from + 1) 0 → base + n ≡ stop → length he₁ ≡ room
       → he₂ ≡ set (set he₁ top (getD w from 0)) (top + 1) (getD w (from + 1) 0)
-      → Laid (top + 2) (base + getD w (from + 1) 0) (take (getD w (from + 1) 0) (drop base he₂)) he₂ he₃
+      → he₃ ≡ sets he₂ (top + 2) (take (getD w (from + 1) 0) (drop base he₂))
       → CellPlaced (block (b .header) (b .values)) from hp stop he i (top + 2 + getD w (from + 1) 0) (2 ^ 28 + top) he₃
   unfolding prefix placed size
   block-done {base} {k} {i} {top} {he} {he₁} {he₂} {he₃} f m e r s moved =
@@ -453,8 +468,14 @@ module _ {w : List ℕ} {from hp stop room : ℕ} (b : BlockHere w from hp stop 
       (drop-set-lt base (set he₁ top (getD w from 0)) (top + 1) (getD w (from + 1) 0) (omega arith)
       ∙ drop-set-lt base he₁ top (getD w from 0) (omega arith)) in
       let waited : take k (drop base he₂) ≡ rs = ap (λ (z : List ℕ). take k z) same ∙ u .waiting in
-      let z : base + k ≡ stop = omega (arith, m, block-many) in
-      let q : Laid (top + 2) stop rs he₂ he₃ = rw (← m, z, waited) at moved in
+      let lr : length rs ≡ n = length-map (refersAll vs hp) bits ∙ u .long ∙ m ∙ block-many in
+      let l₂ : length he₂ ≡ room =
+      ap (λ (z : List ℕ). length z) s
+      ∙ length-set (set he₁ top (getD w from 0)) (top + 1) (getD w (from + 1) 0)
+      ∙ length-set he₁ top (getD w from 0)
+      ∙ r in
+      let q : Laid (top + 2) stop rs he₂ he₃ =
+      rw (moved, ← m, waited) (laid-sets (top + 2) rs he₂ (omega arith) stop (omega arith)) in
       let lg : length (fs ++ h ∷ n ∷ []) ≡ sizes vs + 2 = length-append fs (h ∷ n ∷ []) ∙ omega arith in
       let all : Laid hp stop (fs ++ h ∷ n ∷ [] ++ rs) he he₃ =
       laid-then (omega arith) (laid-then (omega arith) (u .laid) p) q in
@@ -465,10 +486,8 @@ module _ {w : List ℕ} {from hp stop room : ℕ} (b : BlockHere w from hp stop 
       record {
         next-is = u .next-is ∙ omega arith;
         top-is = omega (arith, block-many);
-        copied = record {
-          word-is = ap (λ (y : ℕ). 2 ^ 28 + y) (t ∙ ap (λ (y : ℕ). hp + y) (sym lp)) ∙ bits-ref (hp + length (placedAll vs hp));
-          laid = rw (← words) all;
-        };
+        word-is = ap (λ (y : ℕ). 2 ^ 28 + y) (t ∙ ap (λ (y : ℕ). hp + y) (sym lp)) ∙ bits-ref (hp + length (placedAll vs hp));
+        laid = rw (← words) all;
       }
 
 -- ---- the value on a wire
@@ -517,22 +536,25 @@ module _ {w : List ℕ} {a k : ℕ} (u : Input w a k) where
   pub input-few : size (u .value) ≤ 95
   input-few = size-most (u .value) (rw (u .long) (u .few))
 
-  pub input-here : (room hp stop : ℕ) → hp + size (u .value) ≤ stop → stop < 2 ^ 28 → stop ≤ room
-      → CellHere w (65 * a + 1) hp stop room
-  input-here room hp stop f l o =
+  pub input-here : (room hp stop : ℕ) → stop ≡ hp + size (u .value) → stop < 2 ^ 28 → stop ≤ room
+      → ValueHere w (65 * a + 1) hp stop room
+  input-here room hp stop e l o =
       record {
-        value = u .value;
-        rest = drop k (drop (65 * a + 1) w);
-        good = u .good;
-        here = sym (take-append-drop k (drop (65 * a + 1) w)) ∙ ap (λ (x : List ℕ). x ++ drop k (drop (65 * a + 1) w)) (u .words);
-        fits = f;
-        low = l;
-        inside = o;
+        cell = record {
+          value = u .value;
+          rest = drop k (drop (65 * a + 1) w);
+          good = u .good;
+          here = sym (take-append-drop k (drop (65 * a + 1) w)) ∙ ap (λ (x : List ℕ). x ++ drop k (drop (65 * a + 1) w)) (u .words);
+          fits = omega arith;
+          low = l;
+          inside = o;
+        };
+        exact = e;
       }
 
-  pub input-placed : {room hp stop x : ℕ} {he he' : List ℕ} → hp + size (u .value) ≤ stop → stop < 2 ^ 28 → stop ≤ room
-      → ((c : CellHere w (65 * a + 1) hp stop room) → Copied (c .value) hp stop he x he')
-      → Copied (u .value) hp stop he x he'
+  pub input-placed : {room hp stop x : ℕ} {he he' : List ℕ} → stop ≡ hp + size (u .value) → stop < 2 ^ 28 → stop ≤ room
+      → ((c : ValueHere w (65 * a + 1) hp stop room) → Copied (c .cell .value) hp he x he')
+      → Copied (u .value) hp he x he'
   unfolding input-here
   input-placed {room} {hp} {stop} f l o p = p (input-here room hp stop f l o)
 
@@ -569,16 +591,10 @@ module _ {lim : Limits} {r : Regs} (f : Fit lim r) {st he : List ℕ} {ws hs : L
         ∙ ap (λ (x : ℕ). r .fp + x)
         (sym (locals-append (r .fp) ws (refers (u .value) (length hs) ∷ []) (omega (arith, h .sp, f .fp, f .lp)))))
 
-    module _ {stop x : ℕ} {he' : List ℕ} (p : Copied (u .value) (r .hp) stop he x he') where
-      pub copy-heap : stop ≡ r .hp + size (u .value) → r .hp + size (u .value) ≤ length he
-          → Bears he' (hs ++ placed (u .value) (length hs))
-      copy-heap e l =
-          let ws = map bits (placed (u .value) (r .hp)) in
-          let n : length ws ≡ size (u .value) =
-          length-map (placed (u .value) (r .hp)) bits ∙ length-placed (u .value) (r .hp) in
-          let z : stop ≡ r .hp + length ws = omega arith in
-          let all : he' ≡ sets he (r .hp) ws = laid-whole (r .hp) ws he (omega arith) (rw z at (p .laid)) in
-          rw (all, h .hp)
+    module _ {x : ℕ} {he' : List ℕ} (p : Copied (u .value) (r .hp) he x he') where
+      pub copy-heap : r .hp + size (u .value) ≤ length he → Bears he' (hs ++ placed (u .value) (length hs))
+      copy-heap l =
+          rw (p .heap-is, h .hp)
           (bears-sets he hs (placed (u .value) (length hs)) (h .heap)
           (rw (length-placed (u .value) (length hs), ← h .hp) l))
 

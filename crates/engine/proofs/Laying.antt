@@ -110,52 +110,40 @@ module _ (from to : ℕ) (l : List ℕ) where
   moved-long : (n : ℕ) → from + n ≤ length l → length (take n (drop from l)) ≡ n
   moved-long n h = let a = length-drop from l in length-take-le n (drop from l) (omega arith)
 
-  pub moved-none : Laid to (from + 0) (take 0 (drop from l)) l l
-  moved-none = laid-none to (from + 0) l
-
-  pub moved-next : (j : ℕ) {l' : List ℕ} → to ≤ from → from + j < length l → length l' ≡ length l
-      → Laid to (from + j) (take j (drop from l)) l l'
-      → Laid to (from + (j + 1)) (take (j + 1) (drop from l)) l (set l' (to + j) (getD l' (from + j) 0))
-  moved-next j {l'} h i e a =
-      let x = getD l' (from + j) 0 in
+  pub moved-next : (j : ℕ) {l' : List ℕ} → to ≤ from → from + j < length l → l' ≡ sets l to (take j (drop from l))
+      → set l' (to + j) (getD l' (from + j) 0) ≡ sets l to (take (j + 1) (drop from l))
+  moved-next j {l'} h i e =
       let ws = take j (drop from l) in
+      let x = getD l' (from + j) 0 in
       let n : length ws ≡ j = moved-long j (omega arith) in
-      let m : length (take (j + 1) (drop from l)) ≡ j + 1 = moved-long (j + 1) (omega arith) in
       let d = length-drop from l in
       let z : from + j + 0 ≡ from + j = omega arith in
+      let same : drop (from + j) l' ≡ drop (from + j) l = rw e (drop-sets (from + j) l to ws (omega arith)) in
       let was : x ≡ getD (drop from l) j 0 =
       sym (rw z at (getD-drop (from + j) l' 0 0))
-      ∙ ap (λ (y : List ℕ). getD y 0 0) (a .above)
+      ∙ ap (λ (y : List ℕ). getD y 0 0) same
       ∙ (rw z at (getD-drop (from + j) l 0 0))
       ∙ sym (getD-drop from l j 0) in
       let more : take (j + 1) (drop from l) ≡ ws ++ x ∷ [] =
       ap (λ (y : ℕ). take y (drop from l)) (add-one j)
       ∙ take-suc (drop from l) j 0 (omega arith)
       ∙ ap (λ (y : ℕ). ws ++ y ∷ []) (sym was) in
-      let s : to + length (take (j + 1) (drop from l)) ≡ suc (to + j) = omega arith in
-      record {
-        below =
-            ap (λ (y : ℕ). take y (set l' (to + j) x)) s
-            ∙ take-suc-set l' (to + j) x (omega arith)
-            ∙ ap (λ (y : ℕ). take (to + y) l' ++ x ∷ []) (sym n)
-            ∙ ap (λ (y : List ℕ). y ++ x ∷ []) (a .below)
-            ∙ append-assoc (take to l) ws (x ∷ [])
-            ∙ ap (λ (y : List ℕ). take to l ++ y) (sym more);
-        above =
-            drop-set-lt (from + (j + 1)) l' (to + j) x (omega arith)
-            ∙ drop-later (from + j) (from + (j + 1)) l l' (omega arith) (a .above);
-      }
+      ap (λ (y : List ℕ). set y (to + j) x) e
+      ∙ ap (λ (y : ℕ). set (sets l to ws) (to + y) x) (sym n)
+      ∙ sets-append l to ws (x ∷ [])
+      ∙ ap (λ (y : List ℕ). sets l to y) (sym more)
 
   -- words that stand there already
-  pub moved-there : (n : ℕ) → to ≡ from → from + n ≤ length l → Laid to (from + n) (take n (drop from l)) l l
+  pub moved-there : (n : ℕ) → to ≡ from → from + n ≤ length l → l ≡ sets l to (take n (drop from l))
   moved-there n e h =
-      record {
-        below =
-            ap (λ (k : ℕ). take (to + k) l) (moved-long n h)
-            ∙ take-add to n l
-            ∙ ap (λ (k : ℕ). take to l ++ take n (drop k l)) e;
-        above = refl;
-      }
+      let m = moved-long n h in
+      let s : take to l ++ take n (drop from l) ≡ take (to + n) l =
+      ap (λ (k : ℕ). take to l ++ take n (drop k l)) (sym e) ∙ sym (take-add to n l) in
+      sym
+      (sets-eq (take n (drop from l)) l to (omega arith)
+      ∙ ap (λ (y : List ℕ). y ++ drop (to + length (take n (drop from l))) l) s
+      ∙ ap (λ (k : ℕ). take (to + n) l ++ drop (to + k) l) m
+      ∙ take-append-drop (to + n) l)
 
 -- ---- words that wait
 

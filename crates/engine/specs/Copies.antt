@@ -77,16 +77,21 @@ pub record BlockHere (w : List ℕ) (i hp end room : ℕ) : Type 0 where
   pub low : end < 2 ^ 28
   pub inside : end ≤ room
 
--- The copy is made: the word that refers to it, and the heap.
-pub record Copied (v : Value) (hp end : ℕ) (he : List ℕ) (x : ℕ) (he' : List ℕ) : Type 0 where
-  pub word-is : x ≡ bits (refers v hp)
-  pub laid : Laid hp end (map bits (placed v hp)) he he'
-
--- with the next index and the next heap place
+-- The copy of a cell is made: the next index, the next heap place, the word that refers to it, and the heap.
 pub record CellPlaced (v : Value) (i hp end : ℕ) (he : List ℕ) (next top x : ℕ) (he' : List ℕ) : Type 0 where
   pub next-is : next ≡ i + length (prefix v)
   pub top-is : top ≡ hp + size v
-  pub copied : Copied v hp end he x he'
+  pub word-is : x ≡ bits (refers v hp)
+  pub laid : Laid hp end (map bits (placed v hp)) he he'
+
+-- The room is just the copy's, so nothing is left open.
+pub record ValueHere (w : List ℕ) (i hp end room : ℕ) : Type 0 where
+  pub cell : CellHere w i hp end room
+  pub exact : end ≡ hp + size (cell .value)
+
+pub record Copied (v : Value) (hp : ℕ) (he : List ℕ) (x : ℕ) (he' : List ℕ) : Type 0 where
+  pub word-is : x ≡ bits (refers v hp)
+  pub heap-is : he' ≡ sets he hp (map bits (placed v hp))
 
 -- ---- from the heap to a wire
 

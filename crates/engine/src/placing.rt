@@ -2,9 +2,10 @@
 ghost use mathlib.Core.Path.{_≡_};
 ghost use Prim.Native.Nat.{_+_, _≤_};
 ghost use lib.ListN.{length, take, drop, getD, set};
+ghost use lib.Seq.{sets};
 ghost use Rattle.hume.specs.Values.{block};
 ghost use Rattle.laws.specs.Sizes.{heads};
-ghost use Rattle.engine.specs.Copies.{Laid, CellHere, BlockHere, Copied, CellPlaced};
+ghost use Rattle.engine.specs.Copies.{CellHere, ValueHere, BlockHere, Copied, CellPlaced};
 
 // After a cell: the next index of the wire's words, the next free place of the heap, and the word that refers to the cell.
 struct Placed {
@@ -32,21 +33,21 @@ pub(crate) fn count_words(wires: &[u32], from: usize, k: usize) -> usize
     k + n - 1
 }
 
-// The two words that every cell but None begins with.
-fn place_pair(wires: &[u32], i: usize, heap: &mut [u32], hp: usize)
-    requires { ⌜ i + 2 ≤ length (now wires) ⌝ }
-    requires { ⌜ hp + 2 ≤ length (now heap) ⌝ }
-    ensures { λ _. ⌜ now (heap .exit) ≡ set (set (now (heap .entry)) hp (getD (now (wires .entry)) i 0)) (hp + 1) (getD (now (wires .entry)) (i + 1) 0) ⌝ }
+// The two words that every cell but None begins with, to where the copy of it stands.
+pub(crate) fn put_pair(from: &[u32], i: usize, to: &mut [u32], j: usize)
+    requires { ⌜ i + 2 ≤ length (now from) ⌝ }
+    requires { ⌜ j + 2 ≤ length (now to) ⌝ }
+    ensures { λ _. ⌜ now (to .exit) ≡ set (set (now (to .entry)) j (getD (now (from .entry)) i 0)) (j + 1) (getD (now (from .entry)) (i + 1) 0) ⌝ }
 {
-    heap[hp] = wires[i];
-    heap[hp + 1] = wires[i + 1];
+    to[j] = from[i];
+    to[j + 1] = from[i + 1];
 }
 
 // The n words from a place on, to a lower one, or to where they stand.
 fn move_down(heap: &mut [u32], from: usize, to: usize, n: usize)
     requires { ⌜ to ≤ from ⌝ }
     requires { ⌜ from + n ≤ length (now heap) ⌝ }
-    ensures { λ _. ⌜ Laid to (from + n) (take n (drop from (now (heap .entry)))) (now (heap .entry)) (now (heap .exit)) ⌝ }
+    ensures { λ _. ⌜ now (heap .exit) ≡ sets (now (heap .entry)) to (take n (drop from (now (heap .entry)))) ⌝ }
 {
     if to == from {
         return;
@@ -59,18 +60,18 @@ fn move_down(heap: &mut [u32], from: usize, to: usize, n: usize)
     }
 }
 
-// The value on a wire, placed from hp on: the word that refers to it. What is from `end` on is left. It tells atoms from blocks
-// itself, so that an atom is placed without a call.
+// The value on a wire, placed from hp to `end`: the word that refers to it. It tells atoms from blocks itself, so that an atom is
+// placed without a call.
 pub(crate) fn place(wires: &[u32], i: usize, heap: &mut [u32], hp: usize, end: usize) -> u32
-    requires { ⌜ CellHere (now wires) i hp end (length (now heap)) ⌝ }
-    ensures { λ r. ⌜ ((k : CellHere (now (wires .entry)) i hp end (length (now (heap .entry)))) → Copied (k .value) hp end (now (heap .entry)) r (now (heap .exit))) ⌝ }
+    requires { ⌜ ValueHere (now wires) i hp end (length (now heap)) ⌝ }
+    ensures { λ r. ⌜ ((k : ValueHere (now (wires .entry)) i hp end (length (now (heap .entry)))) → Copied (k .cell .value) hp (now (heap .entry)) r (now (heap .exit))) ⌝ }
 {
     let h = wires[i];
     if h == 458752 {
         return 536870912;
     }
     if h < 262144 {
-        place_pair(wires, i, heap, hp);
+        put_pair(wires, i, heap, hp);
         return 268435456 + hp as u32;
     }
     let placed = place_block(&*wires, i, heap, hp, end);
@@ -96,7 +97,7 @@ fn place_block(wires: &[u32], from: usize, heap: &mut [u32], hp: usize, end: usi
         heap[base + k] = cell.word;
         k += 1;
     }
-    place_pair(wires, from, heap, top);
+    put_pair(wires, from, heap, top);
     move_down(heap, base, top + 2, n);
     Placed {
         next: i,
@@ -119,7 +120,7 @@ fn place_cell(wires: &[u32], i: usize, heap: &mut [u32], hp: usize, end: usize) 
         };
     }
     if h < 262144 {
-        place_pair(wires, i, heap, hp);
+        put_pair(wires, i, heap, hp);
         return Placed {
             next: i + 2,
             top: hp + 2,

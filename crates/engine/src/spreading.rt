@@ -1,19 +1,10 @@
 // "A value copied to a wire is spread out in prefix form": from the heap to a wire, in one pass that stops where there is no room.
+use super::placing::put_pair;
 ghost use mathlib.Core.Path.{_≡_};
 ghost use Prim.Native.Nat.{_+_, _-_, _^_, _≤_, _<_};
-ghost use lib.ListN.{length, getD, set};
+ghost use lib.ListN.{length, getD};
 ghost use Rattle.hume.specs.Words.{tupleHeader};
 ghost use Rattle.engine.specs.Copies.{Readable, spreads, Spread};
-
-// The two words of the object at p that every object has.
-fn spread_pair(heap: &[u32], p: usize, wires: &mut [u32], at: usize)
-    requires { ⌜ p + 2 ≤ length (now heap) ⌝ }
-    requires { ⌜ at + 2 ≤ length (now wires) ⌝ }
-    ensures { λ _. ⌜ now (wires .exit) ≡ set (set (now (wires .entry)) at (getD (now (heap .entry)) p 0)) (at + 1) (getD (now (heap .entry)) (p + 1) 0) ⌝ }
-{
-    wires[at] = heap[p];
-    wires[at + 1] = heap[p + 1];
-}
 
 // Spreads the reference w out on the empty wire at the index `at`, all but its count: how many words that are, 65 if there are
 // more than 64. Then as many as there is room for may be written.
@@ -25,7 +16,7 @@ pub(crate) fn spread(heap: &[u32], w: u32, wires: &mut [u32], at: usize) -> usiz
 {
     let p = (w - 268435456) as usize;
     if heap[p] < 262144 {
-        spread_pair(heap, p, wires, at + 1);
+        put_pair(heap, p, wires, at + 1);
         return 2;
     }
     spread_block(&*heap, w, wires, at + 1, at + 65) - (at + 1)
@@ -42,7 +33,7 @@ fn spread_block(heap: &[u32], w: u32, wires: &mut [u32], at: usize, end: usize) 
     ensures { λ r. ⌜ ((k : Readable (now (heap .entry)) w) → Spread (spreads k) at end (now (wires .entry)) r (now (wires .exit))) ⌝ }
 {
     let p = (w - 268435456) as usize;
-    spread_pair(heap, p, wires, at);
+    put_pair(heap, p, wires, at);
     let n = heap[p + 1] as usize;
     let mut out = at + 2;
     let mut i = 0;
@@ -76,7 +67,7 @@ fn spread_cell(heap: &[u32], w: u32, wires: &mut [u32], at: usize, end: usize) -
     }
     let p = (w - 268435456) as usize;
     if heap[p] < 262144 {
-        spread_pair(heap, p, wires, at);
+        put_pair(heap, p, wires, at);
         return at + 2;
     }
     spread_block(&*heap, w, wires, at, end)

@@ -14,7 +14,7 @@ use Rattle.engine.proofs.placing.place_cell.Reads as place-cell
 use Rattle.engine.proofs.placing.place_cell.Kinds as place-cell-kinds
 use Rattle.engine.proofs.placing.+place_block+place_cell.Lts-place_cell as place-cell-lts
 use Rattle.engine.proofs.placing.move_down.Reads as move-down-reads
-use Rattle.engine.proofs.placing.place_pair.Reads as place-pair-reads
+use Rattle.engine.proofs.placing.put_pair.Reads as put-pair-reads
 use Rattle.engine.proofs.placing.+place_block+place_cell.{statement}
 use Rattle.engine.proofs.placing.+place_block+place_cell.Tie.{close}
 
@@ -53,8 +53,8 @@ place-block-μ-loop wires from heap₀ hp end n base i₀ top₀ k₀ heap i top
 place-block-add-n : (t : ℕ) → place-block-lts.Need-add-n (
   place-cell-below t,
   place-cell.Post,
-  place-pair-reads.Asked,
-  place-pair-reads.Learnt,
+  put-pair-reads.Asked,
+  put-pair-reads.Learnt,
   move-down-reads.Asked,
   move-down-reads.Learnt,
 ) (place-block-at t) place-block.Post place-block-Inv-loop place-block-μ-loop
@@ -66,8 +66,8 @@ place-block-add-n t c =
 place-block-mul-n : (t : ℕ) → place-block-lts.Need-mul-n (
   place-cell-below t,
   place-cell.Post,
-  place-pair-reads.Asked,
-  place-pair-reads.Learnt,
+  put-pair-reads.Asked,
+  put-pair-reads.Learnt,
   move-down-reads.Asked,
   move-down-reads.Learnt,
 ) (place-block-at t) place-block.Post place-block-Inv-loop place-block-μ-loop
@@ -79,8 +79,8 @@ place-block-mul-n t c =
 place-block-shared-slice-read-n : (t : ℕ) → place-block-lts.Need-shared-slice-read-n (
   place-cell-below t,
   place-cell.Post,
-  place-pair-reads.Asked,
-  place-pair-reads.Learnt,
+  put-pair-reads.Asked,
+  put-pair-reads.Learnt,
   move-down-reads.Asked,
   move-down-reads.Learnt,
 ) (place-block-at t) place-block.Post place-block-Inv-loop place-block-μ-loop
@@ -92,8 +92,8 @@ place-block-shared-slice-read-n t c =
 place-block-cast-n : (t : ℕ) → place-block-lts.Need-cast-n (
   place-cell-below t,
   place-cell.Post,
-  place-pair-reads.Asked,
-  place-pair-reads.Learnt,
+  put-pair-reads.Asked,
+  put-pair-reads.Learnt,
   move-down-reads.Asked,
   move-down-reads.Learnt,
 ) (place-block-at t) place-block.Post place-block-Inv-loop place-block-μ-loop
@@ -105,8 +105,8 @@ place-block-cast-n t c =
 place-block-sub-base : (t : ℕ) → place-block-lts.Need-sub-base (
   place-cell-below t,
   place-cell.Post,
-  place-pair-reads.Asked,
-  place-pair-reads.Learnt,
+  put-pair-reads.Asked,
+  put-pair-reads.Learnt,
   move-down-reads.Asked,
   move-down-reads.Learnt,
 ) (place-block-at t) place-block.Post place-block-Inv-loop place-block-μ-loop
@@ -118,8 +118,8 @@ place-block-sub-base t c =
 place-block-add-i : (t : ℕ) → place-block-lts.Need-add-i (
   place-cell-below t,
   place-cell.Post,
-  place-pair-reads.Asked,
-  place-pair-reads.Learnt,
+  put-pair-reads.Asked,
+  put-pair-reads.Learnt,
   move-down-reads.Asked,
   move-down-reads.Learnt,
 ) (place-block-at t) place-block.Post place-block-Inv-loop place-block-μ-loop
@@ -131,8 +131,8 @@ place-block-add-i t c =
 place-block-loop-holds : (t : ℕ) → place-block-lts.Need-loop-holds (
   place-cell-below t,
   place-cell.Post,
-  place-pair-reads.Asked,
-  place-pair-reads.Learnt,
+  put-pair-reads.Asked,
+  put-pair-reads.Learnt,
   move-down-reads.Asked,
   move-down-reads.Learnt,
 ) (place-block-at t) place-block.Post place-block-Inv-loop place-block-μ-loop
@@ -142,8 +142,8 @@ place-block-loop-holds t c =
 place-block-place-cell-requires : (t : ℕ) → place-block-lts.Need-place-cell-requires (
   place-cell-below t,
   place-cell.Post,
-  place-pair-reads.Asked,
-  place-pair-reads.Learnt,
+  put-pair-reads.Asked,
+  put-pair-reads.Learnt,
   move-down-reads.Asked,
   move-down-reads.Learnt,
 ) (place-block-at t) place-block.Post place-block-Inv-loop place-block-μ-loop
@@ -160,8 +160,8 @@ place-block-place-cell-requires t c κs =
 place-block-add-heap : (t : ℕ) → place-block-lts.Need-add-heap (
   place-cell-below t,
   place-cell.Post,
-  place-pair-reads.Asked,
-  place-pair-reads.Learnt,
+  put-pair-reads.Asked,
+  put-pair-reads.Learnt,
   move-down-reads.Asked,
   move-down-reads.Learnt,
 ) (place-block-at t) place-block.Post place-block-Inv-loop place-block-μ-loop
@@ -179,8 +179,8 @@ place-block-add-heap t c =
 place-block-mul-heap : (t : ℕ) → place-block-lts.Need-mul-heap (
   place-cell-below t,
   place-cell.Post,
-  place-pair-reads.Asked,
-  place-pair-reads.Learnt,
+  put-pair-reads.Asked,
+  put-pair-reads.Learnt,
   move-down-reads.Asked,
   move-down-reads.Learnt,
 ) (place-block-at t) place-block.Post place-block-Inv-loop place-block-μ-loop
@@ -198,8 +198,8 @@ place-block-mul-heap t c =
 place-block-slice-write-heap : (t : ℕ) → place-block-lts.Need-slice-write-heap (
   place-cell-below t,
   place-cell.Post,
-  place-pair-reads.Asked,
-  place-pair-reads.Learnt,
+  put-pair-reads.Asked,
+  put-pair-reads.Learnt,
   move-down-reads.Asked,
   move-down-reads.Learnt,
 ) (place-block-at t) place-block.Post place-block-Inv-loop place-block-μ-loop
@@ -217,8 +217,8 @@ place-block-slice-write-heap t c =
 place-block-add-k : (t : ℕ) → place-block-lts.Need-add-k (
   place-cell-below t,
   place-cell.Post,
-  place-pair-reads.Asked,
-  place-pair-reads.Learnt,
+  put-pair-reads.Asked,
+  put-pair-reads.Learnt,
   move-down-reads.Asked,
   move-down-reads.Learnt,
 ) (place-block-at t) place-block.Post place-block-Inv-loop place-block-μ-loop
@@ -236,8 +236,8 @@ place-block-add-k t c =
 place-block-loop-less : (t : ℕ) → place-block-lts.Need-loop-less (
   place-cell-below t,
   place-cell.Post,
-  place-pair-reads.Asked,
-  place-pair-reads.Learnt,
+  put-pair-reads.Asked,
+  put-pair-reads.Learnt,
   move-down-reads.Asked,
   move-down-reads.Learnt,
 ) (place-block-at t) place-block.Post place-block-Inv-loop place-block-μ-loop
@@ -255,8 +255,8 @@ place-block-loop-less t c =
 place-block-loop-again : (t : ℕ) → place-block-lts.Need-loop-again (
   place-cell-below t,
   place-cell.Post,
-  place-pair-reads.Asked,
-  place-pair-reads.Learnt,
+  put-pair-reads.Asked,
+  put-pair-reads.Learnt,
   move-down-reads.Asked,
   move-down-reads.Learnt,
 ) (place-block-at t) place-block.Post place-block-Inv-loop place-block-μ-loop
@@ -280,15 +280,15 @@ place-block-loop-again t c =
           (omega (arith, k .fits)) (omega (arith, k .inside, inv .0)) same (place-cell .ensures),
     )
 
-place-block-place-pair-requires : (t : ℕ) → place-block-lts.Need-place-pair-requires (
+place-block-put-pair-requires : (t : ℕ) → place-block-lts.Need-put-pair-requires (
   place-cell-below t,
   place-cell.Post,
-  place-pair-reads.Asked,
-  place-pair-reads.Learnt,
+  put-pair-reads.Asked,
+  put-pair-reads.Learnt,
   move-down-reads.Asked,
   move-down-reads.Learnt,
 ) (place-block-at t) place-block.Post place-block-Inv-loop place-block-μ-loop
-place-block-place-pair-requires t c κs =
+place-block-put-pair-requires t c κs =
     let start = c .before .before .before .before .before .before in
     let b = start .pre .1 in
     let loop = c .before .before .loop in
@@ -299,8 +299,8 @@ place-block-place-pair-requires t c κs =
 place-block-add-move-down : (t : ℕ) → place-block-lts.Need-add-move-down (
   place-cell-below t,
   place-cell.Post,
-  place-pair-reads.Asked,
-  place-pair-reads.Learnt,
+  put-pair-reads.Asked,
+  put-pair-reads.Learnt,
   move-down-reads.Asked,
   move-down-reads.Learnt,
 ) (place-block-at t) place-block.Post place-block-Inv-loop place-block-μ-loop
@@ -310,15 +310,15 @@ place-block-add-move-down t c =
     let loop = c .before .before .before .before .before .before .loop in
     let inv = loop .inv in
     let many = block-many b in
-    let place-pair = c .before .before .before .place-pair in
-    let same = place-pair .kept .1 .1 .0 in
+    let put-pair = c .before .before .before .put-pair in
+    let same = put-pair .kept .1 .1 .0 in
     omega (arith, fill-top (inv .3 b), b .fits, b .low)
 
 place-block-move-down-requires : (t : ℕ) → place-block-lts.Need-move-down-requires (
   place-cell-below t,
   place-cell.Post,
-  place-pair-reads.Asked,
-  place-pair-reads.Learnt,
+  put-pair-reads.Asked,
+  put-pair-reads.Learnt,
   move-down-reads.Asked,
   move-down-reads.Learnt,
 ) (place-block-at t) place-block.Post place-block-Inv-loop place-block-μ-loop
@@ -328,15 +328,15 @@ place-block-move-down-requires t c κs =
     let loop = c .before .before .before .before .before .before .loop in
     let inv = loop .inv in
     let many = block-many b in
-    let place-pair = c .before .before .before .place-pair in
-    let same = place-pair .kept .1 .1 .0 in
+    let put-pair = c .before .before .before .put-pair in
+    let same = put-pair .kept .1 .1 .0 in
     (omega (arith, fill-top (inv .3 b), b .fits), omega (arith, b .fits, b .inside, inv .0, same))
 
 place-block-add-t13 : (t : ℕ) → place-block-lts.Need-add-t13 (
   place-cell-below t,
   place-cell.Post,
-  place-pair-reads.Asked,
-  place-pair-reads.Learnt,
+  put-pair-reads.Asked,
+  put-pair-reads.Learnt,
   move-down-reads.Asked,
   move-down-reads.Learnt,
 ) (place-block-at t) place-block.Post place-block-Inv-loop place-block-μ-loop
@@ -351,8 +351,8 @@ place-block-add-t13 t c =
 place-block-add-t12 : (t : ℕ) → place-block-lts.Need-add-t12 (
   place-cell-below t,
   place-cell.Post,
-  place-pair-reads.Asked,
-  place-pair-reads.Learnt,
+  put-pair-reads.Asked,
+  put-pair-reads.Learnt,
   move-down-reads.Asked,
   move-down-reads.Learnt,
 ) (place-block-at t) place-block.Post place-block-Inv-loop place-block-μ-loop
@@ -367,8 +367,8 @@ place-block-add-t12 t c =
 place-block-cast-t15 : (t : ℕ) → place-block-lts.Need-cast-t15 (
   place-cell-below t,
   place-cell.Post,
-  place-pair-reads.Asked,
-  place-pair-reads.Learnt,
+  put-pair-reads.Asked,
+  put-pair-reads.Learnt,
   move-down-reads.Asked,
   move-down-reads.Learnt,
 ) (place-block-at t) place-block.Post place-block-Inv-loop place-block-μ-loop
@@ -383,8 +383,8 @@ place-block-cast-t15 t c =
 place-block-add-t27 : (t : ℕ) → place-block-lts.Need-add-t27 (
   place-cell-below t,
   place-cell.Post,
-  place-pair-reads.Asked,
-  place-pair-reads.Learnt,
+  put-pair-reads.Asked,
+  put-pair-reads.Learnt,
   move-down-reads.Asked,
   move-down-reads.Learnt,
 ) (place-block-at t) place-block.Post place-block-Inv-loop place-block-μ-loop
@@ -399,8 +399,8 @@ place-block-add-t27 t c =
 place-block-same-length : (t : ℕ) → place-block-lts.Need-same-length (
   place-cell-below t,
   place-cell.Post,
-  place-pair-reads.Asked,
-  place-pair-reads.Learnt,
+  put-pair-reads.Asked,
+  put-pair-reads.Learnt,
   move-down-reads.Asked,
   move-down-reads.Learnt,
 ) (place-block-at t) place-block.Post place-block-Inv-loop place-block-μ-loop
@@ -410,15 +410,15 @@ place-block-same-length t c =
     let loop = c .before .before .before .before .before .before .before .before .before .loop in
     let inv = loop .inv in
     let many = block-many b in
-    let place-pair = c .before .before .before .before .before .before .place-pair in
+    let put-pair = c .before .before .before .before .before .before .put-pair in
     let move-down = c .before .before .move-down in
-    move-down .kept .0 ∙ place-pair .kept .1 .1 .0 ∙ inv .0
+    move-down .kept .0 ∙ put-pair .kept .1 .1 .0 ∙ inv .0
 
 place-block-returns : (t : ℕ) → place-block-lts.Need-returns (
   place-cell-below t,
   place-cell.Post,
-  place-pair-reads.Asked,
-  place-pair-reads.Learnt,
+  put-pair-reads.Asked,
+  put-pair-reads.Learnt,
   move-down-reads.Asked,
   move-down-reads.Learnt,
 ) (place-block-at t) place-block.Post place-block-Inv-loop place-block-μ-loop
@@ -428,16 +428,16 @@ place-block-returns t c =
     let loop = c .before .before .before .before .before .before .before .before .before .loop in
     let inv = loop .inv in
     let many = block-many b in
-    let place-pair = c .before .before .before .before .before .before .place-pair in
+    let put-pair = c .before .before .before .before .before .before .put-pair in
     let move-down = c .before .before .move-down in
     let over = c .before .before .before .before .before .before .before .before .loop-test .left in
     λ k.
     let n = block-many k in
-    block-done k (inv .3 k) (omega (arith, inv .1, over)) (omega (arith, k .fits)) (inv .0) (place-pair .ensures) (move-down .ensures)
+    block-done k (inv .3 k) (omega (arith, inv .1, over)) (omega (arith, k .fits)) (inv .0) (put-pair .ensures) (move-down .ensures)
 
 place-cell-mul-h : (t : ℕ) → place-cell-lts.Need-mul-h (
-  place-pair-reads.Asked,
-  place-pair-reads.Learnt,
+  put-pair-reads.Asked,
+  put-pair-reads.Learnt,
   place-block-below t,
   place-block.Post,
 ) (place-cell-at t) place-cell.Post
@@ -447,8 +447,8 @@ place-cell-mul-h t c =
     omega (arith, cell-inside k, start .good)
 
 place-cell-shared-slice-read-h : (t : ℕ) → place-cell-lts.Need-shared-slice-read-h (
-  place-pair-reads.Asked,
-  place-pair-reads.Learnt,
+  put-pair-reads.Asked,
+  put-pair-reads.Learnt,
   place-block-below t,
   place-block.Post,
 ) (place-cell-at t) place-cell.Post
@@ -458,8 +458,8 @@ place-cell-shared-slice-read-h t c =
     cell-inside k
 
 place-cell-add-t11 : (t : ℕ) → place-cell-lts.Need-add-t11 (
-  place-pair-reads.Asked,
-  place-pair-reads.Learnt,
+  put-pair-reads.Asked,
+  put-pair-reads.Learnt,
   place-block-below t,
   place-block.Post,
 ) (place-cell-at t) place-cell.Post
@@ -469,28 +469,28 @@ place-cell-add-t11 t c =
     omega (arith, cell-inside k, start .good)
 
 place-cell-returns : (t : ℕ) → place-cell-lts.Need-returns (
-  place-pair-reads.Asked,
-  place-pair-reads.Learnt,
+  put-pair-reads.Asked,
+  put-pair-reads.Learnt,
   place-block-below t,
   place-block.Post,
 ) (place-cell-at t) place-cell.Post
 place-cell-returns t c =
     λ k. cell-none k (c .if1 .taken) _
 
-place-cell-place-pair-requires : (t : ℕ) → place-cell-lts.Need-place-pair-requires (
-  place-pair-reads.Asked,
-  place-pair-reads.Learnt,
+place-cell-put-pair-requires : (t : ℕ) → place-cell-lts.Need-put-pair-requires (
+  put-pair-reads.Asked,
+  put-pair-reads.Learnt,
   place-block-below t,
   place-block.Post,
 ) (place-cell-at t) place-cell.Post
-place-cell-place-pair-requires t c κs =
+place-cell-put-pair-requires t c κs =
     let start = c .before .before .before .before .before .before in
     let k = start .pre .1 in
     (cell-inside-2 k (c .before .before .if1 .left), omega (arith, cell-two k (c .before .if2 .taken), k .inside))
 
 place-cell-add-t15 : (t : ℕ) → place-cell-lts.Need-add-t15 (
-  place-pair-reads.Asked,
-  place-pair-reads.Learnt,
+  put-pair-reads.Asked,
+  put-pair-reads.Learnt,
   place-block-below t,
   place-block.Post,
 ) (place-cell-at t) place-cell.Post
@@ -502,8 +502,8 @@ place-cell-add-t15 t c =
     omega (arith, cell-inside-2 k (if1 .left), start .good)
 
 place-cell-add-t16 : (t : ℕ) → place-cell-lts.Need-add-t16 (
-  place-pair-reads.Asked,
-  place-pair-reads.Learnt,
+  put-pair-reads.Asked,
+  put-pair-reads.Learnt,
   place-block-below t,
   place-block.Post,
 ) (place-cell-at t) place-cell.Post
@@ -515,8 +515,8 @@ place-cell-add-t16 t c =
     omega (arith, cell-two k (if2 .taken), k .low)
 
 place-cell-cast-t17 : (t : ℕ) → place-cell-lts.Need-cast-t17 (
-  place-pair-reads.Asked,
-  place-pair-reads.Learnt,
+  put-pair-reads.Asked,
+  put-pair-reads.Learnt,
   place-block-below t,
   place-block.Post,
 ) (place-cell-at t) place-cell.Post
@@ -528,8 +528,8 @@ place-cell-cast-t17 t c =
     omega (arith, cell-two k (if2 .taken), k .low)
 
 place-cell-add-t18 : (t : ℕ) → place-cell-lts.Need-add-t18 (
-  place-pair-reads.Asked,
-  place-pair-reads.Learnt,
+  put-pair-reads.Asked,
+  put-pair-reads.Learnt,
   place-block-below t,
   place-block.Post,
 ) (place-cell-at t) place-cell.Post
@@ -541,28 +541,28 @@ place-cell-add-t18 t c =
     omega (arith, cell-two k (if2 .taken), k .low)
 
 place-cell-same-length : (t : ℕ) → place-cell-lts.Need-same-length (
-  place-pair-reads.Asked,
-  place-pair-reads.Learnt,
+  put-pair-reads.Asked,
+  put-pair-reads.Learnt,
   place-block-below t,
   place-block.Post,
 ) (place-cell-at t) place-cell.Post
 place-cell-same-length t c =
-    c .before .before .place-pair .kept .1 .1 .0
+    c .before .before .put-pair .kept .1 .1 .0
 
 place-cell-returns-2 : (t : ℕ) → place-cell-lts.Need-returns-2 (
-  place-pair-reads.Asked,
-  place-pair-reads.Learnt,
+  put-pair-reads.Asked,
+  put-pair-reads.Learnt,
   place-block-below t,
   place-block.Post,
 ) (place-cell-at t) place-cell.Post
 place-cell-returns-2 t c =
     let if2 = c .before .before .before .before .if2 in
-    let place-pair = c .before .before .place-pair in
-    λ k. rw (place-pair .ensures) (cell-atom k (if2 .taken) _ refl)
+    let put-pair = c .before .before .put-pair in
+    λ k. rw (put-pair .ensures) (cell-atom k (if2 .taken) _ refl)
 
 place-cell-place-block-requires : (t : ℕ) → place-cell-lts.Need-place-block-requires (
-  place-pair-reads.Asked,
-  place-pair-reads.Learnt,
+  put-pair-reads.Asked,
+  put-pair-reads.Learnt,
   place-block-below t,
   place-block.Post,
 ) (place-cell-at t) place-cell.Post
@@ -574,8 +574,8 @@ place-cell-place-block-requires t c κs =
     (omega (arith, start .pre .0, cell-inside k), cell-block k (if1 .left) (if2 .left))
 
 place-cell-same-length-2 : (t : ℕ) → place-cell-lts.Need-same-length-2 (
-  place-pair-reads.Asked,
-  place-pair-reads.Learnt,
+  put-pair-reads.Asked,
+  put-pair-reads.Learnt,
   place-block-below t,
   place-block.Post,
 ) (place-cell-at t) place-cell.Post
@@ -583,8 +583,8 @@ place-cell-same-length-2 t c =
     c .before .before .place-block .kept .1 .1 .0
 
 place-cell-returns-3 : (t : ℕ) → place-cell-lts.Need-returns-3 (
-  place-pair-reads.Asked,
-  place-pair-reads.Learnt,
+  put-pair-reads.Asked,
+  put-pair-reads.Learnt,
   place-block-below t,
   place-block.Post,
 ) (place-cell-at t) place-cell.Post
@@ -598,8 +598,8 @@ pub +place-block+place-cell-spec : {M : Type 1} → statement M
 +place-block+place-cell-spec = close μ-place-block μ-place-cell (λ t. place-block-lts.spec (
   place-cell-below t,
   place-cell.Post,
-  place-pair-reads.Asked,
-  place-pair-reads.Learnt,
+  put-pair-reads.Asked,
+  put-pair-reads.Learnt,
   move-down-reads.Asked,
   move-down-reads.Learnt,
 )
@@ -621,7 +621,7 @@ pub +place-block+place-cell-spec : {M : Type 1} → statement M
     (place-block-add-k t)
     (place-block-loop-less t)
     (place-block-loop-again t)
-    (place-block-place-pair-requires t)
+    (place-block-put-pair-requires t)
     (place-block-add-move-down t)
     (place-block-move-down-requires t)
     (place-block-add-t13 t)
@@ -631,14 +631,14 @@ pub +place-block+place-cell-spec : {M : Type 1} → statement M
     (place-block-same-length t)
     (place-block-returns t))
     λ t. place-cell-lts.spec
-    (place-pair-reads.Asked, place-pair-reads.Learnt, place-block-below t, place-block.Post)
+    (put-pair-reads.Asked, put-pair-reads.Learnt, place-block-below t, place-block.Post)
     (place-cell-at t)
     place-cell.Post
     (place-cell-mul-h t)
     (place-cell-shared-slice-read-h t)
     (place-cell-add-t11 t)
     (place-cell-returns t)
-    (place-cell-place-pair-requires t)
+    (place-cell-put-pair-requires t)
     (place-cell-add-t15 t)
     (place-cell-add-t16 t)
     (place-cell-cast-t17 t)

@@ -1,15 +1,15 @@
 use mathlib.Core.Path.{_≡_, refl}
-use Prim.Native.Nat.{_+_, _-_, _≤_}
+use Prim.Native.Nat.{_-_, _≤_}
 use native.Mathlib.Omega.{arith}
 use lib.ListN.{length, take, drop, length-set}
-use Rattle.engine.specs.Copies.{Laid}
-use Rattle.engine.proofs.Laying.{moved-none, moved-next, moved-there}
+use lib.Seq.{sets}
+use Rattle.engine.proofs.Laying.{moved-next, moved-there}
 use Rattle.engine.proofs.placing.move_down.Statement.{statement}
 use Rattle.engine.proofs.placing.move_down.Tie as tie
 
 abbrev Inv-loop : tie.InvT-loop
 Inv-loop heap₀ from to n j₀ heap j =
-    (length heap ≡ length heap₀) × (j ≤ n) × Laid to (from + j) (take j (drop from heap₀)) heap₀ heap
+    (length heap ≡ length heap₀) × (j ≤ n) × (heap ≡ sets heap₀ to (take j (drop from heap₀)))
 
 abbrev μ-loop : tie.MeasureT-loop
 μ-loop heap₀ from to n j₀ heap j = n - j
@@ -20,7 +20,7 @@ returns c =
     moved-there _ _ _ _ (c .if1 .taken) (start .pre .1)
 
 loop-holds : tie.Need-loop-holds Inv-loop μ-loop
-loop-holds c = (refl, omega arith, moved-none _ _ _)
+loop-holds c = (refl, omega arith, refl)
 
 add-w : tie.Need-add-w Inv-loop μ-loop
 add-w c = omega arith
@@ -50,7 +50,7 @@ loop-again : tie.Need-loop-again Inv-loop μ-loop
 loop-again c =
     let loop = c .before .before .loop in
     let start = c .before .before .before .before in
-    (simp length-set (loop .inv .0), omega arith, moved-next _ _ _ _ (start .pre .0) (omega (arith, loop .inv .0)) (loop .inv .0) (loop .inv .2))
+    (simp length-set (loop .inv .0), omega arith, moved-next _ _ _ _ (start .pre .0) (omega (arith, loop .inv .0)) (loop .inv .2))
 
 same-length : tie.Need-same-length Inv-loop μ-loop
 same-length c = c .before .loop .inv .0

@@ -14,7 +14,7 @@ use Rattle.engine.proofs.spreading.+spread_block+spread_cell.Lts-spread
 use Rattle.engine.proofs.spreading.spread_cell.Reads as spread-cell
 use Rattle.engine.proofs.spreading.spread_cell.Kinds as spread-cell-kinds
 use Rattle.engine.proofs.spreading.+spread_block+spread_cell.Lts-spread_cell as spread-cell-lts
-use Rattle.engine.proofs.spreading.spread_pair.Reads as spread-pair-reads
+use Rattle.engine.proofs.placing.put_pair.Reads as put-pair-reads
 use Rattle.engine.proofs.spreading.+spread_block+spread_cell.{statement}
 use Rattle.engine.proofs.spreading.+spread_block+spread_cell.Tie.{close}
 
@@ -57,8 +57,8 @@ abbrev spread-block-μ-loop : spread-block-lts.MeasureT-loop
 spread-block-μ-loop heap w wires₀ at end p n out₀ i₀ wires out i = n - i
 
 spread-block-sub-p : (t : ℕ) → spread-block-lts.Need-sub-p (
-  spread-pair-reads.Asked,
-  spread-pair-reads.Learnt,
+  put-pair-reads.Asked,
+  put-pair-reads.Learnt,
   spread-cell-below t,
   spread-cell.Post,
 ) (spread-block-at t) spread-block.Post spread-block-Inv-loop spread-block-μ-loop
@@ -67,8 +67,8 @@ spread-block-sub-p t c =
     omega (arith, reads-ref (start .pre .1 .0) (start .pre .1 .1 .0) .least)
 
 spread-block-cast-p : (t : ℕ) → spread-block-lts.Need-cast-p (
-  spread-pair-reads.Asked,
-  spread-pair-reads.Learnt,
+  put-pair-reads.Asked,
+  put-pair-reads.Learnt,
   spread-cell-below t,
   spread-cell.Post,
 ) (spread-block-at t) spread-block.Post spread-block-Inv-loop spread-block-μ-loop
@@ -76,19 +76,19 @@ spread-block-cast-p t c =
     let start = c .before .before in
     omega (arith, reads-inside (start .pre .1 .0) (start .pre .1 .1 .0), start .good)
 
-spread-block-spread-pair-requires : (t : ℕ) → spread-block-lts.Need-spread-pair-requires (
-  spread-pair-reads.Asked,
-  spread-pair-reads.Learnt,
+spread-block-put-pair-requires : (t : ℕ) → spread-block-lts.Need-put-pair-requires (
+  put-pair-reads.Asked,
+  put-pair-reads.Learnt,
   spread-cell-below t,
   spread-cell.Post,
 ) (spread-block-at t) spread-block.Post spread-block-Inv-loop spread-block-μ-loop
-spread-block-spread-pair-requires t c κs =
+spread-block-put-pair-requires t c κs =
     let start = c .before .before .before in
     (omega (arith, reads-inside (start .pre .1 .0) (start .pre .1 .1 .0)), omega (arith, start .pre .1 .1 .1 .1 .0, start .pre .1 .1 .1 .1 .1))
 
 spread-block-add-n : (t : ℕ) → spread-block-lts.Need-add-n (
-  spread-pair-reads.Asked,
-  spread-pair-reads.Learnt,
+  put-pair-reads.Asked,
+  put-pair-reads.Learnt,
   spread-cell-below t,
   spread-cell.Post,
 ) (spread-block-at t) spread-block.Post spread-block-Inv-loop spread-block-μ-loop
@@ -97,8 +97,8 @@ spread-block-add-n t c =
     omega (arith, reads-inside (start .pre .1 .0) (start .pre .1 .1 .0), start .good)
 
 spread-block-mul-n : (t : ℕ) → spread-block-lts.Need-mul-n (
-  spread-pair-reads.Asked,
-  spread-pair-reads.Learnt,
+  put-pair-reads.Asked,
+  put-pair-reads.Learnt,
   spread-cell-below t,
   spread-cell.Post,
 ) (spread-block-at t) spread-block.Post spread-block-Inv-loop spread-block-μ-loop
@@ -107,8 +107,8 @@ spread-block-mul-n t c =
     omega (arith, reads-inside (start .pre .1 .0) (start .pre .1 .1 .0), start .good)
 
 spread-block-shared-slice-read-n : (t : ℕ) → spread-block-lts.Need-shared-slice-read-n (
-  spread-pair-reads.Asked,
-  spread-pair-reads.Learnt,
+  put-pair-reads.Asked,
+  put-pair-reads.Learnt,
   spread-cell-below t,
   spread-cell.Post,
 ) (spread-block-at t) spread-block.Post spread-block-Inv-loop spread-block-μ-loop
@@ -117,8 +117,8 @@ spread-block-shared-slice-read-n t c =
     omega (arith, reads-inside (start .pre .1 .0) (start .pre .1 .1 .0), start .good)
 
 spread-block-cast-n : (t : ℕ) → spread-block-lts.Need-cast-n (
-  spread-pair-reads.Asked,
-  spread-pair-reads.Learnt,
+  put-pair-reads.Asked,
+  put-pair-reads.Learnt,
   spread-cell-below t,
   spread-cell.Post,
 ) (spread-block-at t) spread-block.Post spread-block-Inv-loop spread-block-μ-loop
@@ -127,8 +127,8 @@ spread-block-cast-n t c =
     omega (arith, c .shared-slice-known2 .given (start .args .w - 268435456 + 1))
 
 spread-block-add-out : (t : ℕ) → spread-block-lts.Need-add-out (
-  spread-pair-reads.Asked,
-  spread-pair-reads.Learnt,
+  put-pair-reads.Asked,
+  put-pair-reads.Learnt,
   spread-cell-below t,
   spread-cell.Post,
 ) (spread-block-at t) spread-block.Post spread-block-Inv-loop spread-block-μ-loop
@@ -137,8 +137,8 @@ spread-block-add-out t c =
     omega (arith, start .pre .1 .1 .1 .1 .0, start .pre .1 .1 .1 .1 .1, start .good)
 
 spread-block-loop-holds : (t : ℕ) → spread-block-lts.Need-loop-holds (
-  spread-pair-reads.Asked,
-  spread-pair-reads.Learnt,
+  put-pair-reads.Asked,
+  put-pair-reads.Learnt,
   spread-cell-below t,
   spread-cell.Post,
 ) (spread-block-at t) spread-block.Post spread-block-Inv-loop spread-block-μ-loop
@@ -147,8 +147,8 @@ spread-block-loop-holds t c =
     (omega arith, start .pre .1 .1 .1 .1 .0, refl, λ k v e. partly-none k (start .pre .1 .1 .0) (start .pre .1 .1 .1 .0) (omega arith) (omega arith) e)
 
 spread-block-add-field : (t : ℕ) → spread-block-lts.Need-add-field (
-  spread-pair-reads.Asked,
-  spread-pair-reads.Learnt,
+  put-pair-reads.Asked,
+  put-pair-reads.Learnt,
   spread-cell-below t,
   spread-cell.Post,
 ) (spread-block-at t) spread-block.Post spread-block-Inv-loop spread-block-μ-loop
@@ -157,8 +157,8 @@ spread-block-add-field t c =
     omega (arith, reads-inside (start .pre .1 .0) (start .pre .1 .1 .0), start .good)
 
 spread-block-add-field-2 : (t : ℕ) → spread-block-lts.Need-add-field-2 (
-  spread-pair-reads.Asked,
-  spread-pair-reads.Learnt,
+  put-pair-reads.Asked,
+  put-pair-reads.Learnt,
   spread-cell-below t,
   spread-cell.Post,
 ) (spread-block-at t) spread-block.Post spread-block-Inv-loop spread-block-μ-loop
@@ -168,8 +168,8 @@ spread-block-add-field-2 t c =
     omega (arith, fields-inside (reads-fields (start .pre .1 .0) (start .pre .1 .1 .0) (start .pre .1 .1 .1 .0)), loop-test .taken, start .good)
 
 spread-block-mul-field : (t : ℕ) → spread-block-lts.Need-mul-field (
-  spread-pair-reads.Asked,
-  spread-pair-reads.Learnt,
+  put-pair-reads.Asked,
+  put-pair-reads.Learnt,
   spread-cell-below t,
   spread-cell.Post,
 ) (spread-block-at t) spread-block.Post spread-block-Inv-loop spread-block-μ-loop
@@ -179,8 +179,8 @@ spread-block-mul-field t c =
     omega (arith, fields-inside (reads-fields (start .pre .1 .0) (start .pre .1 .1 .0) (start .pre .1 .1 .1 .0)), loop-test .taken, start .good)
 
 spread-block-shared-slice-read-field : (t : ℕ) → spread-block-lts.Need-shared-slice-read-field (
-  spread-pair-reads.Asked,
-  spread-pair-reads.Learnt,
+  put-pair-reads.Asked,
+  put-pair-reads.Learnt,
   spread-cell-below t,
   spread-cell.Post,
 ) (spread-block-at t) spread-block.Post spread-block-Inv-loop spread-block-μ-loop
@@ -190,23 +190,23 @@ spread-block-shared-slice-read-field t c =
     omega (arith, fields-inside (reads-fields (start .pre .1 .0) (start .pre .1 .1 .0) (start .pre .1 .1 .1 .0)), loop-test .taken, start .good)
 
 spread-block-spread-cell-requires : (t : ℕ) → spread-block-lts.Need-spread-cell-requires (
-  spread-pair-reads.Asked,
-  spread-pair-reads.Learnt,
+  put-pair-reads.Asked,
+  put-pair-reads.Learnt,
   spread-cell-below t,
   spread-cell.Post,
 ) (spread-block-at t) spread-block.Post spread-block-Inv-loop spread-block-μ-loop
 spread-block-spread-cell-requires t c κs =
     let start = c .before .before .before .before .before .before .before .before .before .before .before in
     let loop = c .before .before .before .loop in
-    let spread-pair = c .before .before .before .before .before .before .before .spread-pair in
+    let put-pair = c .before .before .before .before .before .before .before .put-pair in
     let loop-test = c .before .before .loop-test in (
       omega (arith, start .pre .0, start .pre .1 .1 .1 .1 .0, loop .inv .0),
-      (reads-first ((loop .inv .3 (start .pre .1 .0) (start .args .wires .now) (spread-pair .ensures)) .rest) (ne-of-gt (omega (arith, loop-test .taken))), (loop .inv .1, omega (arith, start .pre .1 .1 .1 .1 .1, loop .inv .2, spread-pair .kept .1 .1 .0))),
+      (reads-first ((loop .inv .3 (start .pre .1 .0) (start .args .wires .now) (put-pair .ensures)) .rest) (ne-of-gt (omega (arith, loop-test .taken))), (loop .inv .1, omega (arith, start .pre .1 .1 .1 .1 .1, loop .inv .2, put-pair .kept .1 .1 .0))),
     )
 
 spread-block-add-result : (t : ℕ) → spread-block-lts.Need-add-result (
-  spread-pair-reads.Asked,
-  spread-pair-reads.Learnt,
+  put-pair-reads.Asked,
+  put-pair-reads.Learnt,
   spread-cell-below t,
   spread-cell.Post,
 ) (spread-block-at t) spread-block.Post spread-block-Inv-loop spread-block-μ-loop
@@ -215,35 +215,35 @@ spread-block-add-result t c =
     omega (arith, start .pre .1 .1 .1 .1 .1, start .good)
 
 spread-block-same-length : (t : ℕ) → spread-block-lts.Need-same-length (
-  spread-pair-reads.Asked,
-  spread-pair-reads.Learnt,
+  put-pair-reads.Asked,
+  put-pair-reads.Learnt,
   spread-cell-below t,
   spread-cell.Post,
 ) (spread-block-at t) spread-block.Post spread-block-Inv-loop spread-block-μ-loop
 spread-block-same-length t c =
     let spread-cell = c .before .before .before .spread-cell in
     let loop = c .before .before .before .before .before .before .before .loop in
-    let spread-pair = c .before .before .before .before .before .before .before .before .before .before .before .spread-pair in
-    spread-cell .kept .1 .1 .0 ∙ loop .inv .2 ∙ spread-pair .kept .1 .1 .0
+    let put-pair = c .before .before .before .before .before .before .before .before .before .before .before .put-pair in
+    spread-cell .kept .1 .1 .0 ∙ loop .inv .2 ∙ put-pair .kept .1 .1 .0
 
 spread-block-returns : (t : ℕ) → spread-block-lts.Need-returns (
-  spread-pair-reads.Asked,
-  spread-pair-reads.Learnt,
+  put-pair-reads.Asked,
+  put-pair-reads.Learnt,
   spread-cell-below t,
   spread-cell.Post,
 ) (spread-block-at t) spread-block.Post spread-block-Inv-loop spread-block-μ-loop
 spread-block-returns t c =
     let loop = c .before .before .before .before .before .before .before .loop in
     let start = c .before .before .before .before .before .before .before .before .before .before .before .before .before .before .before in
-    let spread-pair = c .before .before .before .before .before .before .before .before .before .before .before .spread-pair in
+    let put-pair = c .before .before .before .before .before .before .before .before .before .before .before .put-pair in
     let loop-test = c .before .before .before .before .before .before .loop-test in
     let spread-cell = c .before .before .before .spread-cell in
     let if1 = c .if1 in
-    λ k. partly-over (loop .inv .3 k (start .args .wires .now) (spread-pair .ensures)) (ne-of-gt (omega (arith, loop-test .taken))) (spread-cell .ensures) (if1 .taken)
+    λ k. partly-over (loop .inv .3 k (start .args .wires .now) (put-pair .ensures)) (ne-of-gt (omega (arith, loop-test .taken))) (spread-cell .ensures) (if1 .taken)
 
 spread-block-add-i : (t : ℕ) → spread-block-lts.Need-add-i (
-  spread-pair-reads.Asked,
-  spread-pair-reads.Learnt,
+  put-pair-reads.Asked,
+  put-pair-reads.Learnt,
   spread-cell-below t,
   spread-cell.Post,
 ) (spread-block-at t) spread-block.Post spread-block-Inv-loop spread-block-μ-loop
@@ -253,8 +253,8 @@ spread-block-add-i t c =
     omega (arith, fields-inside (reads-fields (start .pre .1 .0) (start .pre .1 .1 .0) (start .pre .1 .1 .1 .0)), loop-test .taken, start .good)
 
 spread-block-loop-less : (t : ℕ) → spread-block-lts.Need-loop-less (
-  spread-pair-reads.Asked,
-  spread-pair-reads.Learnt,
+  put-pair-reads.Asked,
+  put-pair-reads.Learnt,
   spread-cell-below t,
   spread-cell.Post,
 ) (spread-block-at t) spread-block.Post spread-block-Inv-loop spread-block-μ-loop
@@ -263,19 +263,19 @@ spread-block-loop-less t c =
     omega (arith, loop-test .taken)
 
 spread-block-loop-again : (t : ℕ) → spread-block-lts.Need-loop-again (
-  spread-pair-reads.Asked,
-  spread-pair-reads.Learnt,
+  put-pair-reads.Asked,
+  put-pair-reads.Learnt,
   spread-cell-below t,
   spread-cell.Post,
 ) (spread-block-at t) spread-block.Post spread-block-Inv-loop spread-block-μ-loop
 spread-block-loop-again t c =
     let loop = c .before .before .before .before .before .before .before .loop in
     let start = c .before .before .before .before .before .before .before .before .before .before .before .before .before .before .before in
-    let spread-pair = c .before .before .before .before .before .before .before .before .before .before .before .spread-pair in
+    let put-pair = c .before .before .before .before .before .before .before .before .before .before .before .put-pair in
     let loop-test = c .before .before .before .before .before .before .loop-test in
     let spread-cell = c .before .before .before .spread-cell in
     let if1 = c .if1 in
-    let first = reads-first ((loop .inv .3 (start .pre .1 .0) (start .args .wires .now) (spread-pair .ensures)) .rest) (ne-of-gt (omega (arith, loop-test .taken))) in (
+    let first = reads-first ((loop .inv .3 (start .pre .1 .0) (start .args .wires .now) (put-pair .ensures)) .rest) (ne-of-gt (omega (arith, loop-test .taken))) in (
       omega (arith, spread-least (loop .inv .1) (spread-cell .ensures first), loop .inv .0),
       if1 .left,
       spread-cell .kept .1 .1 .0 ∙ loop .inv .2,
@@ -283,32 +283,32 @@ spread-block-loop-again t c =
     )
 
 spread-block-same-length-2 : (t : ℕ) → spread-block-lts.Need-same-length-2 (
-  spread-pair-reads.Asked,
-  spread-pair-reads.Learnt,
+  put-pair-reads.Asked,
+  put-pair-reads.Learnt,
   spread-cell-below t,
   spread-cell.Post,
 ) (spread-block-at t) spread-block.Post spread-block-Inv-loop spread-block-μ-loop
 spread-block-same-length-2 t c =
     let loop = c .before .loop in
-    let spread-pair = c .before .before .before .before .before .spread-pair in
-    loop .inv .2 ∙ spread-pair .kept .1 .1 .0
+    let put-pair = c .before .before .before .before .before .put-pair in
+    loop .inv .2 ∙ put-pair .kept .1 .1 .0
 
 spread-block-returns-2 : (t : ℕ) → spread-block-lts.Need-returns-2 (
-  spread-pair-reads.Asked,
-  spread-pair-reads.Learnt,
+  put-pair-reads.Asked,
+  put-pair-reads.Learnt,
   spread-cell-below t,
   spread-cell.Post,
 ) (spread-block-at t) spread-block.Post spread-block-Inv-loop spread-block-μ-loop
 spread-block-returns-2 t c =
     let loop = c .before .loop in
     let start = c .before .before .before .before .before .before .before .before .before in
-    let spread-pair = c .before .before .before .before .before .spread-pair in
+    let put-pair = c .before .before .before .before .before .put-pair in
     let loop-test = c .loop-test in
-    λ k. partly-all (loop .inv .3 k (start .args .wires .now) (spread-pair .ensures)) (omega (arith, loop-test .left)) (loop .inv .1)
+    λ k. partly-all (loop .inv .3 k (start .args .wires .now) (put-pair .ensures)) (omega (arith, loop-test .left)) (loop .inv .1)
 
 spread-cell-add-result : (t : ℕ) → spread-cell-lts.Need-add-result (
-  spread-pair-reads.Asked,
-  spread-pair-reads.Learnt,
+  put-pair-reads.Asked,
+  put-pair-reads.Learnt,
   spread-block-below t,
   spread-block.Post,
 ) (spread-cell-at t) spread-cell.Post
@@ -317,8 +317,8 @@ spread-cell-add-result t c =
     omega (arith, start .pre .1 .1 .1, start .good)
 
 spread-cell-returns : (t : ℕ) → spread-cell-lts.Need-returns (
-  spread-pair-reads.Asked,
-  spread-pair-reads.Learnt,
+  put-pair-reads.Asked,
+  put-pair-reads.Learnt,
   spread-block-below t,
   spread-block.Post,
 ) (spread-cell-at t) spread-cell.Post
@@ -328,8 +328,8 @@ spread-cell-returns t c =
     λ k. none-over k (start .args .wires .now) (start .pre .1 .1 .0) (if2 .taken)
 
 spread-cell-mul-wires : (t : ℕ) → spread-cell-lts.Need-mul-wires (
-  spread-pair-reads.Asked,
-  spread-pair-reads.Learnt,
+  put-pair-reads.Asked,
+  put-pair-reads.Learnt,
   spread-block-below t,
   spread-block.Post,
 ) (spread-cell-at t) spread-cell.Post
@@ -339,8 +339,8 @@ spread-cell-mul-wires t c =
     omega (arith, if2 .left, start .pre .1 .1 .1, start .good)
 
 spread-cell-slice-write-wires : (t : ℕ) → spread-cell-lts.Need-slice-write-wires (
-  spread-pair-reads.Asked,
-  spread-pair-reads.Learnt,
+  put-pair-reads.Asked,
+  put-pair-reads.Learnt,
   spread-block-below t,
   spread-block.Post,
 ) (spread-cell-at t) spread-cell.Post
@@ -350,8 +350,8 @@ spread-cell-slice-write-wires t c =
     omega (arith, if2 .left, start .pre .1 .1 .1)
 
 spread-cell-add-result-2 : (t : ℕ) → spread-cell-lts.Need-add-result-2 (
-  spread-pair-reads.Asked,
-  spread-pair-reads.Learnt,
+  put-pair-reads.Asked,
+  put-pair-reads.Learnt,
   spread-block-below t,
   spread-block.Post,
 ) (spread-cell-at t) spread-cell.Post
@@ -361,16 +361,16 @@ spread-cell-add-result-2 t c =
     omega (arith, if2 .left, start .pre .1 .1 .1, start .good)
 
 spread-cell-same-length : (t : ℕ) → spread-cell-lts.Need-same-length (
-  spread-pair-reads.Asked,
-  spread-pair-reads.Learnt,
+  put-pair-reads.Asked,
+  put-pair-reads.Learnt,
   spread-block-below t,
   spread-block.Post,
 ) (spread-cell-at t) spread-cell.Post
 spread-cell-same-length t c = simp length-set
 
 spread-cell-returns-2 : (t : ℕ) → spread-cell-lts.Need-returns-2 (
-  spread-pair-reads.Asked,
-  spread-pair-reads.Learnt,
+  put-pair-reads.Asked,
+  put-pair-reads.Learnt,
   spread-block-below t,
   spread-block.Post,
 ) (spread-cell-at t) spread-cell.Post
@@ -381,8 +381,8 @@ spread-cell-returns-2 t c =
     λ k. none-spread k (start .args .wires .now) (if2 .left) (if1 .taken)
 
 spread-cell-add-if3 : (t : ℕ) → spread-cell-lts.Need-add-if3 (
-  spread-pair-reads.Asked,
-  spread-pair-reads.Learnt,
+  put-pair-reads.Asked,
+  put-pair-reads.Learnt,
   spread-block-below t,
   spread-block.Post,
 ) (spread-cell-at t) spread-cell.Post
@@ -391,8 +391,8 @@ spread-cell-add-if3 t c =
     omega (arith, start .pre .1 .1 .0, start .pre .1 .1 .1, start .good)
 
 spread-cell-add-result-3 : (t : ℕ) → spread-cell-lts.Need-add-result-3 (
-  spread-pair-reads.Asked,
-  spread-pair-reads.Learnt,
+  put-pair-reads.Asked,
+  put-pair-reads.Learnt,
   spread-block-below t,
   spread-block.Post,
 ) (spread-cell-at t) spread-cell.Post
@@ -401,8 +401,8 @@ spread-cell-add-result-3 t c =
     omega (arith, start .pre .1 .1 .1, start .good)
 
 spread-cell-returns-3 : (t : ℕ) → spread-cell-lts.Need-returns-3 (
-  spread-pair-reads.Asked,
-  spread-pair-reads.Learnt,
+  put-pair-reads.Asked,
+  put-pair-reads.Learnt,
   spread-block-below t,
   spread-block.Post,
 ) (spread-cell-at t) spread-cell.Post
@@ -413,8 +413,8 @@ spread-cell-returns-3 t c =
     λ k. two-over k (start .args .wires .now) (if1 .left) (start .pre .1 .1 .0) (if3 .taken)
 
 spread-cell-sub-p : (t : ℕ) → spread-cell-lts.Need-sub-p (
-  spread-pair-reads.Asked,
-  spread-pair-reads.Learnt,
+  put-pair-reads.Asked,
+  put-pair-reads.Learnt,
   spread-block-below t,
   spread-block.Post,
 ) (spread-cell-at t) spread-cell.Post
@@ -424,8 +424,8 @@ spread-cell-sub-p t c =
     omega (arith, reads-ref (start .pre .1 .0) (if1 .left) .least)
 
 spread-cell-cast-p : (t : ℕ) → spread-cell-lts.Need-cast-p (
-  spread-pair-reads.Asked,
-  spread-pair-reads.Learnt,
+  put-pair-reads.Asked,
+  put-pair-reads.Learnt,
   spread-block-below t,
   spread-block.Post,
 ) (spread-cell-at t) spread-cell.Post
@@ -435,8 +435,8 @@ spread-cell-cast-p t c =
     omega (arith, reads-inside (start .pre .1 .0) (if1 .left), start .good)
 
 spread-cell-mul-if4 : (t : ℕ) → spread-cell-lts.Need-mul-if4 (
-  spread-pair-reads.Asked,
-  spread-pair-reads.Learnt,
+  put-pair-reads.Asked,
+  put-pair-reads.Learnt,
   spread-block-below t,
   spread-block.Post,
 ) (spread-cell-at t) spread-cell.Post
@@ -446,8 +446,8 @@ spread-cell-mul-if4 t c =
     omega (arith, reads-inside (start .pre .1 .0) (if1 .left), start .good)
 
 spread-cell-shared-slice-read-if4 : (t : ℕ) → spread-cell-lts.Need-shared-slice-read-if4 (
-  spread-pair-reads.Asked,
-  spread-pair-reads.Learnt,
+  put-pair-reads.Asked,
+  put-pair-reads.Learnt,
   spread-block-below t,
   spread-block.Post,
 ) (spread-cell-at t) spread-cell.Post
@@ -456,21 +456,21 @@ spread-cell-shared-slice-read-if4 t c =
     let if1 = c .before .before .if1 in
     omega (arith, reads-inside (start .pre .1 .0) (if1 .left), start .good)
 
-spread-cell-spread-pair-requires : (t : ℕ) → spread-cell-lts.Need-spread-pair-requires (
-  spread-pair-reads.Asked,
-  spread-pair-reads.Learnt,
+spread-cell-put-pair-requires : (t : ℕ) → spread-cell-lts.Need-put-pair-requires (
+  put-pair-reads.Asked,
+  put-pair-reads.Learnt,
   spread-block-below t,
   spread-block.Post,
 ) (spread-cell-at t) spread-cell.Post
-spread-cell-spread-pair-requires t c κs =
+spread-cell-put-pair-requires t c κs =
     let start = c .before .before .before .before .before .before .before in
     let if1 = c .before .before .before .before .if1 in
     let if3 = c .before .before .before .if3 in
     (omega (arith, reads-inside (start .pre .1 .0) (if1 .left)), omega (arith, if3 .left, start .pre .1 .1 .1))
 
 spread-cell-add-result-4 : (t : ℕ) → spread-cell-lts.Need-add-result-4 (
-  spread-pair-reads.Asked,
-  spread-pair-reads.Learnt,
+  put-pair-reads.Asked,
+  put-pair-reads.Learnt,
   spread-block-below t,
   spread-block.Post,
 ) (spread-cell-at t) spread-cell.Post
@@ -480,18 +480,18 @@ spread-cell-add-result-4 t c =
     omega (arith, if3 .left, start .pre .1 .1 .1, start .good)
 
 spread-cell-same-length-2 : (t : ℕ) → spread-cell-lts.Need-same-length-2 (
-  spread-pair-reads.Asked,
-  spread-pair-reads.Learnt,
+  put-pair-reads.Asked,
+  put-pair-reads.Learnt,
   spread-block-below t,
   spread-block.Post,
 ) (spread-cell-at t) spread-cell.Post
 spread-cell-same-length-2 t c =
-    let spread-pair = c .before .before .spread-pair in
-    spread-pair .kept .1 .1 .0
+    let put-pair = c .before .before .put-pair in
+    put-pair .kept .1 .1 .0
 
 spread-cell-returns-4 : (t : ℕ) → spread-cell-lts.Need-returns-4 (
-  spread-pair-reads.Asked,
-  spread-pair-reads.Learnt,
+  put-pair-reads.Asked,
+  put-pair-reads.Learnt,
   spread-block-below t,
   spread-block.Post,
 ) (spread-cell-at t) spread-cell.Post
@@ -500,12 +500,12 @@ spread-cell-returns-4 t c =
     let if1 = c .before .before .before .before .before .before .before .if1 in
     let if4 = c .before .before .before .before .if4 in
     let if3 = c .before .before .before .before .before .before .if3 in
-    let spread-pair = c .before .before .spread-pair in
-    λ k. atom-spread k (start .args .wires .now) (if1 .left) (if4 .taken) (if3 .left) (spread-pair .ensures)
+    let put-pair = c .before .before .put-pair in
+    λ k. atom-spread k (start .args .wires .now) (if1 .left) (if4 .taken) (if3 .left) (put-pair .ensures)
 
 spread-cell-spread-block-requires : (t : ℕ) → spread-cell-lts.Need-spread-block-requires (
-  spread-pair-reads.Asked,
-  spread-pair-reads.Learnt,
+  put-pair-reads.Asked,
+  put-pair-reads.Learnt,
   spread-block-below t,
   spread-block.Post,
 ) (spread-cell-at t) spread-cell.Post
@@ -517,8 +517,8 @@ spread-cell-spread-block-requires t c κs =
     (omega (arith, start .pre .0), (start .pre .1 .0, (if1 .left, (if4 .left, (if3 .left, start .pre .1 .1 .1)))))
 
 spread-cell-same-length-3 : (t : ℕ) → spread-cell-lts.Need-same-length-3 (
-  spread-pair-reads.Asked,
-  spread-pair-reads.Learnt,
+  put-pair-reads.Asked,
+  put-pair-reads.Learnt,
   spread-block-below t,
   spread-block.Post,
 ) (spread-cell-at t) spread-cell.Post
@@ -527,8 +527,8 @@ spread-cell-same-length-3 t c =
     spread-block .kept .1 .1 .0
 
 spread-cell-returns-5 : (t : ℕ) → spread-cell-lts.Need-returns-5 (
-  spread-pair-reads.Asked,
-  spread-pair-reads.Learnt,
+  put-pair-reads.Asked,
+  put-pair-reads.Learnt,
   spread-block-below t,
   spread-block.Post,
 ) (spread-cell-at t) spread-cell.Post
@@ -538,8 +538,8 @@ spread-cell-returns-5 t c =
 
 pub +spread-block+spread-cell-spec : {M : Type 1} → statement M
 +spread-block+spread-cell-spec = close μ-spread-block μ-spread-cell (λ t. spread-block-lts.spec (
-  spread-pair-reads.Asked,
-  spread-pair-reads.Learnt,
+  put-pair-reads.Asked,
+  put-pair-reads.Learnt,
   spread-cell-below t,
   spread-cell.Post,
 )
@@ -549,7 +549,7 @@ pub +spread-block+spread-cell-spec : {M : Type 1} → statement M
     spread-block-μ-loop
     (spread-block-sub-p t)
     (spread-block-cast-p t)
-    (spread-block-spread-pair-requires t)
+    (spread-block-put-pair-requires t)
     (spread-block-add-n t)
     (spread-block-mul-n t)
     (spread-block-shared-slice-read-n t)
@@ -570,7 +570,7 @@ pub +spread-block+spread-cell-spec : {M : Type 1} → statement M
     (spread-block-same-length-2 t)
     (spread-block-returns-2 t))
     λ t. spread-cell-lts.spec
-    (spread-pair-reads.Asked, spread-pair-reads.Learnt, spread-block-below t, spread-block.Post)
+    (put-pair-reads.Asked, put-pair-reads.Learnt, spread-block-below t, spread-block.Post)
     (spread-cell-at t)
     spread-cell.Post
     (spread-cell-add-result t)
@@ -587,7 +587,7 @@ pub +spread-block+spread-cell-spec : {M : Type 1} → statement M
     (spread-cell-cast-p t)
     (spread-cell-mul-if4 t)
     (spread-cell-shared-slice-read-if4 t)
-    (spread-cell-spread-pair-requires t)
+    (spread-cell-put-pair-requires t)
     (spread-cell-add-result-4 t)
     (spread-cell-same-length-2 t)
     (spread-cell-returns-4 t)

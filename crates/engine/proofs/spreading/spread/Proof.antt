@@ -23,27 +23,27 @@ shared-slice-read-if1 c =
     let start = c .before .before .before in
     omega (arith, reads-inside (start .pre .0) (start .pre .1 .0))
 
-add-spread-pair : tie.Need-add-spread-pair
-add-spread-pair c =
+add-put-pair : tie.Need-add-put-pair
+add-put-pair c =
     let start = c .before .before .before .before .before in
     omega (arith, start .pre .1 .1, start .good)
 
-spread-pair-requires : tie.Need-spread-pair-requires
-spread-pair-requires c κs =
+put-pair-requires : tie.Need-put-pair-requires
+put-pair-requires c κs =
     let start = c .before .before .before .before .before in
     (omega (arith, reads-inside (start .pre .0) (start .pre .1 .0)), omega (arith, start .pre .1 .1))
 
 same-length : tie.Need-same-length
 same-length c =
-    let spread-pair = c .before .before .spread-pair in
-    spread-pair .kept .1 .1 .0
+    let put-pair = c .before .before .put-pair in
+    put-pair .kept .1 .1 .0
 
 returns : tie.Need-returns
 returns c =
     let start = c .before .before .before .before .before .before .before .before in
     let if1 = c .before .before .before .before .if1 in
-    let spread-pair = c .before .before .spread-pair in
-    λ k. atom-spread k (start .args .wires .now) (start .pre .1 .0) (if1 .taken) (omega arith) (spread-pair .ensures)
+    let put-pair = c .before .before .put-pair in
+    λ k. atom-spread k (start .args .wires .now) (start .pre .1 .0) (if1 .taken) (omega arith) (put-pair .ensures)
 
 add-spread-block : tie.Need-add-spread-block
 add-spread-block c =
@@ -90,8 +90,8 @@ spread-spec =
     cast-p
     mul-if1
     shared-slice-read-if1
-    add-spread-pair
-    spread-pair-requires
+    add-put-pair
+    put-pair-requires
     same-length
     returns
     add-spread-block

@@ -126,7 +126,7 @@ returns-2 c =
           settle-yes (copy-leads (start .pre .0) h _ or _ u _ _ (if1 .left) e) _ _ (charge .ensures) (if2 .taken)
           (λ x y. record {
             stack = copy-stack (start .pre .0) h _ or (start .args .a) u p (omega (arith, pd .depth, start .pre .1 .0));
-            heap = copy-heap (start .pre .0) h _ or (start .args .a) u p (omega (arith, e)) fits;
+            heap = copy-heap (start .pre .0) h _ or (start .args .a) u p fits;
             wires = refl;
             order = refl;
           });
