@@ -1,5 +1,7 @@
 // Document 01, "Primitives": the arithmetic of the machine on 32-bit words, integers in two's complement and floats as
 // their bits. Every function is total: of a zero divisor `div_int` makes 0 and `mod_int` the dividend, as the definitions do.
+#![tactic(auto)]
+
 ghost use Rattle.std.specs.Prelude.{◌≡◌, ◌-◌, ◌*◌, ◌/◌, ◌^◌, ◌<◌, ◌≤◌, nat_abs};
 ghost use Rattle.std.specs.Float.{binary32};
 ghost use Rattle.std.specs.Float.Ieee.{nan_bits};
@@ -192,7 +194,7 @@ pub fn to_float(a: u32) -> u32
 }
 
 // The integer of a float, or that it has none.
-#[derive(Drop)]
+#[derive(Clone, Copy)]
 pub enum Cut {
     Whole(u32),
     Out,

@@ -6,6 +6,8 @@
 //
 // Operations 0 to 6 are add, sub, mul, div, mod, lt and le of integers, 7 canonical, 8 to 14 add, sub, mul, div, eq, lt and
 // le of floats, 15 to_float and 16 to_int.
+#![tactic(auto)]
+
 use arith::Cut;
 
 // The state after s: s * 1664525 + 1013904223 modulo 2^32.

@@ -1,4 +1,6 @@
 // The machine of document 01 on lent slices.
+#![tactic(auto)]
+
 mod builds;
 mod control;
 mod image;
@@ -29,7 +31,7 @@ use stepping::fix;
 use whole::wipe;
 
 // "an ending carries its own detail inside the returned record"
-#[derive(Drop)]
+#[derive(Clone, Copy)]
 pub enum Ending {
     Finished,
     Blocked(u32),
@@ -42,7 +44,7 @@ pub enum Ending {
 }
 
 // What a call returns: the refusal, or the ending and "pc, steps charged, time, peak depth (0 at the start), depth, heap".
-#[derive(Drop)]
+#[derive(Clone, Copy)]
 pub struct Report {
     pub verdict: Verdict,
     pub ending: Ending,

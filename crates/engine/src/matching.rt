@@ -16,7 +16,7 @@ use super::regs::{Limits, Regs, Turn};
 use super::words::is_value;
 
 // What a match comes to: the number of its fault, or 0; and then whether it matches, with mp and inp after it.
-#[derive(Drop)]
+#[derive(Clone, Copy)]
 struct Attempt {
     fault: u32,
     hit: bool,

@@ -6,7 +6,7 @@ ghost use Rattle.laws.specs.Sizes.{heads};
 ghost use Rattle.engine.specs.Copies.{CellHere, ValueHere, BlockHere, Copied, CellPlaced};
 
 // After a cell: the next index of the wire's words, the next free place of the heap, and the word that refers to the cell.
-#[derive(Drop)]
+#[derive(Clone, Copy)]
 struct Placed {
     next: usize,
     top: usize,

@@ -29,7 +29,7 @@ pub(crate) const CYCLES: [u16; 25] = [
 
 // What a primitive gives: the number of its fault, or 0; and then, if it raises, an exception's number as head and field as
 // tail, else its result's header and payload. No enum, which the compiler would pass through memory.
-#[derive(Drop)]
+#[derive(Clone, Copy)]
 struct Yielded {
     fault: u32,
     raises: bool,
@@ -181,7 +181,7 @@ fn prim2(a: usize, h0: u32, x: u32, h1: u32, y: u32) -> Yielded
 // ---- an application
 
 // What an application comes to, told as what a primitive gives, with the depth below a result's operands.
-#[derive(Drop)]
+#[derive(Clone, Copy)]
 struct Outcome {
     fault: u32,
     raises: bool,

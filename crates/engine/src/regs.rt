@@ -5,13 +5,13 @@ ghost use Rattle.engine.specs.Turns.{Charging, halt};
 use super::Ending;
 
 // The limits on depth and heap. The time that is left is a register.
-#[derive(Drop)]
+#[derive(Clone, Copy)]
 pub struct Limits {
     pub stack: usize,
     pub heap: usize,
 }
 
-#[derive(Drop)]
+#[derive(Clone, Copy)]
 pub struct Regs {
     pub pc: usize,
     pub sp: usize,
@@ -29,7 +29,7 @@ pub struct Regs {
 }
 
 // The registers after a turn, and whether the machine goes on; where it doesn't, how it ended.
-#[derive(Drop)]
+#[derive(Clone, Copy)]
 pub struct Turn {
     pub regs: Regs,
     pub go: bool,

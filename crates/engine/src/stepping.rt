@@ -13,7 +13,7 @@ use super::regs::{Limits, Regs, Turn};
 use arith::canonical;
 
 // What is found once of an image: where its instructions begin, how many wires it has, and its handler with its entry.
-#[derive(Drop)]
+#[derive(Clone, Copy)]
 pub struct Fixed {
     pub code: usize,
     pub inputs: usize,

@@ -68,7 +68,7 @@ fn first_stuck(stack: &[u32], sp: usize, wires: &[u32], inputs: usize, n: usize)
 }
 
 // Whether a word can be written to a wire: the number of the fault, or 0; and then how many words its value takes, 0 for None.
-#[derive(Drop)]
+#[derive(Clone, Copy)]
 struct Room {
     fault: u32,
     n: usize,

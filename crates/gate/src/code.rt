@@ -8,7 +8,7 @@ ghost use Rattle.gate.specs.Parts.{Read, addresses_end, rules_ok, kind_of, digit
 use crate::image::{byte_at, full_at, half_at};
 
 // What an instruction's fields are tested against.
-#[derive(Drop)]
+#[derive(Clone, Copy)]
 pub struct Sizes {
     pub inputs: usize,
     pub outputs: usize,

@@ -5,7 +5,7 @@ ghost use Rattle.hume.specs.Refusals.{length_ok, counts_ok};
 ghost use Rattle.gate.specs.Parts.{Read, ranges_ok, counts_end};
 
 // The refusals by their numbers, from 0.
-#[derive(Drop)]
+#[derive(Clone, Copy)]
 pub enum Verdict {
     Accepted,
     Length,

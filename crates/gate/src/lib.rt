@@ -1,5 +1,7 @@
 // Which calls are turned away: document 01, "What is turned away, first that applies", 1 to 8. Any slice may be handed
 // in: empty, huge or lying about its length.
+#![tactic(auto)]
+
 mod code;
 pub mod image;
 mod order;

@@ -1,9 +1,11 @@
 // Reads calls, a line each, and writes the number that turns each away, 0 for none. vectors/gate.rs makes the lines and
 // says what they mean, and makes the numbers to compare with.
+#![tactic(auto)]
+
 use gate::Verdict;
 
 // What has been read of a line: the place of a pair, if it has been read, and the digits of a number so far.
-#[derive(Drop)]
+#[derive(Clone, Copy)]
 struct Pen {
     first: bool,
     placed: bool,

@@ -1,12 +1,14 @@
 // "A program reads the image .. and then a run sheet from standard input .. Bytes after it aren't read. .. It prints the eight figures in
 // that order on one line, or `refused N`." The work is the crate sheet's; here are the reads and writes.
+#![tactic(auto)]
+
 ghost use Rattle.std.specs.Prelude.{◌≤◌, length};
 ghost use Rattle.ham.specs.Read.{Filled, Collected, Replied};
 
 use libc::{STDERR_FILENO, STDIN_FILENO, STDOUT_FILENO};
 
 // How many bytes were read, whether that is all that was asked for, and, where it isn't, whether a read failed: else the input has ended.
-#[derive(Drop)]
+#[derive(Clone, Copy)]
 struct Got {
     count: usize,
     whole: bool,
@@ -14,7 +16,7 @@ struct Got {
 }
 
 // What was read, and where the line begins that is printed for it.
-#[derive(Drop)]
+#[derive(Clone, Copy)]
 struct Reply {
     got: Got,
     start: usize,

@@ -1,4 +1,6 @@
 // The call for hosts in C and Rust: numbers and slices alone.
+#![tactic(auto)]
+
 ghost use Rattle.std.specs.Prelude.{◌≡◌, set};
 ghost use Rattle.hume.specs.Call.{answer};
 ghost use Rattle.gate.specs.Verdicts.{number, given};

@@ -1,4 +1,6 @@
 // The program's work on lent slices: from the bytes of standard input to the line that is printed.
+#![tactic(auto)]
+
 mod decode;
 mod line;
 
