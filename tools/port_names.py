@@ -110,9 +110,10 @@ def main():
         print("\n".join(f"{o} {n}" for o, n in sorted(names.items())))
         return 0
     changed = 0
+    kept = {o: n for o, n in names.items() if o not in functions(root)}
     for path in files(root, "crates", ends=(".antt", ".rt", ".edit")):
         text = read(path)
-        new = turned(text, names)
+        new = turned(text, kept if path.endswith(".rt") else names)
         if new != text:
             changed += 1
             with open(path, "w", encoding="utf-8") as f:

@@ -78,7 +78,7 @@ fn fields_end(s: &[u32], i: usize, n: u32) -> usize
 }
 
 // "Otherwise the k words are exactly one value"; "None (header only, never a whole wire value)"
-fn one_value_lem(s: &[u32]) -> bool
+fn one_value(s: &[u32]) -> bool
     ensures { result ≡ one_value s.now }
 {
     if s.len() == 0 {
@@ -122,7 +122,7 @@ fn wire_ok(wires: &[u32], i: usize) -> bool
     if k == 0 {
         return true;
     }
-    one_value_lem(&wires[first..end])
+    one_value(&wires[first..end])
 }
 
 // "Wires: 65 words each, inputs first."

@@ -1,0 +1,18 @@
+use mathlib.Core.Path.{◌≡◌, sym, ◌∙◌}
+use mathlib.Core.Bool.{true}
+use Prim.Native.Nat.{ℕ, ◌+◌, ◌-◌, ◌≤◌, ◌<◌}
+use native.Mathlib.Omega.{arith}
+use borrow.Author.Count.{below_none, below_more}
+use borrow.Author.Tests.{not-true, not-false}
+use lib.ListN.{get_or}
+use Rattle.hume.specs.Image.{program}
+use Rattle.hume.specs.Refusals.{permutation, order_of}
+use Rattle.gate.proofs.Lent.{Part, rulesets_few, whole_order, lent_part, order_long, order_out, order_in}
+use borrow.Author.Rules.{rules}
+use Rattle.gate.proofs.order.order_ok.Given as goal
+
+abbrev pub invariant-loop-r : goal.invariant-loop-r
+invariant-loop-r l = (l.r ≤ l.rulesets) × ((j : ℕ) → j < l.r → permutation ((program l.image).count j) (order_of (program l.image) l.order j) ≡ true)
+
+abbrev pub decreases-loop-r : goal.decreases-loop-r
+decreases-loop-r l = l.rulesets - l.r
