@@ -17,14 +17,15 @@ returns-then-start-eq0 c =
     (lost_place _ _ _ c.addresses_end-start.ensures.is (ruleset_some _ _) c.if-start-eq0.true))
 
 pub instructions_ok-requires : goal.instructions_ok-requires
-instructions_ok-requires c = (
-  record {
-    is =
-        (found_place _ _ _ c.addresses_end-start.ensures.is c.if-start-eq0.false).is;
-    small = c.addresses_end-start.ensures.small;
-  },
-  c.requires,
-)
+instructions_ok-requires c =
+    record {
+      read = record {
+        is =
+            (found_place _ _ _ c.addresses_end-start.ensures.is c.if-start-eq0.false).is;
+        small = c.addresses_end-start.ensures.small;
+      };
+      bound = c.requires;
+    }
 
 pub returns : goal.returns
 unfolding code_ok

@@ -41,7 +41,7 @@ returns-then-not-instruction_ok c =
     let h : c.loop-k.k < (program c.args.image.now).size = omega (arith, c.half_at-size.ensures.is, c.loop-k-test.true) in
     sym (and_no _ (last_ok (program c.args.image.now))
     (every_no _ _ c.loop-k.k h
-    (instruction_is _ _ _ _ _ _ c.requires.0.is c.byte_at.ensures.is c.byte_at-2.ensures.is
+    (instruction_is _ _ _ _ _ _ c.requires.read.is c.byte_at.ensures.is c.byte_at-2.ensures.is
     c.byte_at-3.ensures.is c.half_at-size.ensures.is c.loop-k.k ∙ sym c.instruction_ok.ensures
     ∙ not-true _ c.if-not-instruction_ok.true-raw)))
 
@@ -55,14 +55,14 @@ pub loop-k-preserved : goal.loop-k-preserved
 loop-k-preserved c = (
   omega arith,
   below_more _ _ c.loop-k.invariant.1
-      (instruction_is _ _ _ _ _ _ c.requires.0.is c.byte_at.ensures.is c.byte_at-2.ensures.is
+      (instruction_is _ _ _ _ _ _ c.requires.read.is c.byte_at.ensures.is c.byte_at-2.ensures.is
       c.byte_at-3.ensures.is c.half_at-size.ensures.is c.loop-k.k
       ∙ sym c.instruction_ok.ensures ∙ not-false _ c.if-not-instruction_ok.false-raw),
 )
 
 pub overflow_sub-size : goal.overflow_sub-size
 unfolding program
-overflow_sub-size c = let h = c.requires.1 in omega (arith, c.half_at-size.ensures.is)
+overflow_sub-size c = let h = c.requires.bound in omega (arith, c.half_at-size.ensures.is)
 
 pub overflow_mul-size : goal.overflow_mul-size
 overflow_mul-size c = omega arith
@@ -82,5 +82,5 @@ returns c =
     let h : (program c.args.image.now).size ≤ c.loop-k.k = omega (arith, c.half_at-size.ensures.is, c.loop-k-test.false) in
     c.ends_ok.ensures ∙ ap ends_ok c.byte_at-4.ensures.is
     ∙ sym (and_yes _ _ (every_yes _ _ (λ j l. c.loop-k.invariant.1 j (omega arith)))
-    ∙ last_is _ _ _ _ _ _ c.requires.0.is c.byte_at.ensures.is c.byte_at-2.ensures.is c.byte_at-3.ensures.is
+    ∙ last_is _ _ _ _ _ _ c.requires.read.is c.byte_at.ensures.is c.byte_at-2.ensures.is c.byte_at-3.ensures.is
     c.half_at-size.ensures.is)

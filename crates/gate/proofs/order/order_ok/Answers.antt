@@ -11,20 +11,6 @@ use Rattle.gate.proofs.Lent.{Part, rulesets_few, whole_order, lent_part, order_l
 use borrow.Author.Rules.{rules}
 use Rattle.gate.proofs.order.order_ok.Goals as goal
 
--- the part that a turn looks at
-part : (c : tie.In-loop invariant-loop decreases-loop)
-    → Part (program c.before.before.before.before.before.before.before.before.args.image.now)
-    c.before.before.before.before.before.before.before.before.args.order.now
-    (get_or c.before.before.before.before.layout.result.order c.before.loop.r 0)
-    (get_or c.before.before.before.before.layout.result.order (c.before.loop.r + 1) 0) c.before.loop.r
-part c =
-    let start = c.before.before.before.before.before.before.before.before in
-    let layout = c.before.before.before.before.layout in
-    let byte_at = c.before.before.before.before.before.byte_at in
-    lent_part start.args.image.now start.args.order.now layout.result.order start.requires _
-    byte_at.ensures.is layout.ensures.ordered c.before.before.if1.false c.before.loop.r
-    c.loop-test.true
-
 pub byte_at-rulesets-requires : goal.byte_at-rulesets-requires
 byte_at-rulesets-requires c = tt
 
@@ -66,23 +52,29 @@ bounds-places-r-in-loop-r c =
     omega (arith, c.loop-r-test.true)
 
 pub offset_bounds-order-from : goal.offset_bounds-order-from
-offset_bounds-order-from c = let p = part c in omega (arith, p.up, p.within, c.well_formed)
+offset_bounds-order-from c = let p = lent_part c.args.image.now c.args.order.now c.layout-begins.result.order c.requires _ c.byte_at-rulesets.ensures.is
+    c.layout-begins.ensures.ordered c.if-order-places.false c.loop-r.r c.loop-r-test.true in omega (arith, p.up, p.within, c.well_formed)
 
 pub slice_bounds-permutation_ok-count : goal.slice_bounds-permutation_ok-count
-slice_bounds-permutation_ok-count c = (part c).up
+slice_bounds-permutation_ok-count c = (lent_part c.args.image.now c.args.order.now c.layout-begins.result.order c.requires _ c.byte_at-rulesets.ensures.is
+    c.layout-begins.ensures.ordered c.if-order-places.false c.loop-r.r c.loop-r-test.true).up
 
 pub slice_bounds-permutation_ok-start : goal.slice_bounds-permutation_ok-start
-slice_bounds-permutation_ok-start c = (part c).up
+slice_bounds-permutation_ok-start c = (lent_part c.args.image.now c.args.order.now c.layout-begins.result.order c.requires _ c.byte_at-rulesets.ensures.is
+    c.layout-begins.ensures.ordered c.if-order-places.false c.loop-r.r c.loop-r-test.true).up
 
 pub slice_bounds-permutation_ok-end : goal.slice_bounds-permutation_ok-end
-slice_bounds-permutation_ok-end c = (part c).within
+slice_bounds-permutation_ok-end c = (lent_part c.args.image.now c.args.order.now c.layout-begins.result.order c.requires _ c.byte_at-rulesets.ensures.is
+    c.layout-begins.ensures.ordered c.if-order-places.false c.loop-r.r c.loop-r-test.true).within
 
 pub permutation_ok-requires : goal.permutation_ok-requires
-permutation_ok-requires c = (part c).short
+permutation_ok-requires c = (lent_part c.args.image.now c.args.order.now c.layout-begins.result.order c.requires _ c.byte_at-rulesets.ensures.is
+    c.layout-begins.ensures.ordered c.if-order-places.false c.loop-r.r c.loop-r-test.true).short
 
 pub returns-then-not-permutation_ok : goal.returns-then-not-permutation_ok
 returns-then-not-permutation_ok c =
-    let p = part c in
+    let p = lent_part c.args.image.now c.args.order.now c.layout-begins.result.order c.requires _ c.byte_at-rulesets.ensures.is
+    c.layout-begins.ensures.ordered c.if-order-places.false c.loop-r.r c.loop-r-test.true in
     sym (order_out (program c.args.image.now) c.args.order.now p.long c.loop-r.r p.low
     (p.is ∙ sym c.permutation_ok.ensures ∙ not-true _ c.if-not-permutation_ok.true-raw))
 
@@ -96,7 +88,8 @@ pub loop-r-preserved : goal.loop-r-preserved
 loop-r-preserved c = (
   omega arith,
   below_more _ _ c.loop-r.invariant.1
-      ((part c).is ∙ sym c.permutation_ok.ensures ∙ not-false _ c.if-not-permutation_ok.false-raw),
+      ((lent_part c.args.image.now c.args.order.now c.layout-begins.result.order c.requires _ c.byte_at-rulesets.ensures.is
+      c.layout-begins.ensures.ordered c.if-order-places.false c.loop-r.r c.loop-r-test.true).is ∙ sym c.permutation_ok.ensures ∙ not-false _ c.if-not-permutation_ok.false-raw),
 )
 
 pub returns : goal.returns
