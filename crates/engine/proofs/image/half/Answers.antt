@@ -1,0 +1,8 @@
+use Rattle.hume.specs.Image.{half, byte}
+use native.Mathlib.Omega.{arith}
+use borrow.Author.Rules.{rules}
+use Rattle.engine.proofs.image.half.Goals as goal
+
+pub returns : goal.returns
+unfolding half byte
+returns c = ((cc), omega arith)

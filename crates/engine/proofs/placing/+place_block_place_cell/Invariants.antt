@@ -1,0 +1,23 @@
+use mathlib.Core.Path.{◌≡◌, refl, ◌∙◌}
+use Prim.Native.Nat.{◌+◌, ◌-◌, ◌*◌, ◌≤◌}
+use native.Mathlib.Omega.{arith}
+use lib.ListN.{length, length-set}
+use Rattle.engine.specs.Copies.{BlockHere}
+use Rattle.engine.proofs.Copying.{Filling, cell_inside, cell_inside_2, cell_none, cell_two, cell_atom, cell_block, cell_placed, block_inside, block_many, block_done, fill_none, fill_top, fill_cell, fill_next}
+use Prim.Native.Nat.{ℕ, ◌<◌}
+use Rattle.engine.proofs.placing.+place_block_place_cell.Given as goal
+
+abbrev pub decreases-place_block : goal.decreases-place_block
+decreases-place_block l = 2 * (length a.0.now - a.1.0)
+
+abbrev pub decreases-place_cell : goal.decreases-place_cell
+decreases-place_cell l = 2 * (length a.0.now - a.1.0) + 1
+
+abbrev pub place_block-invariant-loop-k : goal.place_block-invariant-loop-k
+place_block-invariant-loop-k l = (length l.heap ≡ length l.initial.heap)
+    × (l.k ≤ l.n)
+    × (l.from + 2 ≤ l.i)
+    × ((b : BlockHere l.wires l.from l.hp l.end (length l.initial.heap)) → Filling l.wires b.values (l.from + 2) l.hp l.base l.end l.initial.heap l.k l.i l.top l.heap)
+
+abbrev pub place_block-decreases-loop-k : goal.place_block-decreases-loop-k
+place_block-decreases-loop-k l = l.n - l.k

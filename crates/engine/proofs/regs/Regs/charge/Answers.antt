@@ -1,0 +1,23 @@
+use mathlib.Core.Path.{◌≡◌, ◌∙◌}
+use Rattle.engine.specs.Turns.{late, deep, full}
+use Rattle.engine.proofs.Charges.{pays_deeper, pays_no_deeper}
+use borrow.Author.Rules.{rules}
+use Rattle.engine.proofs.regs.Regs.charge.Goals as goal
+
+pub returns-then-self-cost : goal.returns-then-self-cost
+returns-then-self-cost c = late c.if-self-cost.true c.halt.ensures
+
+pub returns-then-lim-next : goal.returns-then-lim-next
+returns-then-lim-next c = deep c.if-self-cost.false c.if-lim-next.true c.halt-then-lim-next.ensures
+
+pub returns-then-lim-next-2 : goal.returns-then-lim-next-2
+returns-then-lim-next-2 c =
+    full c.if-self-cost.false c.if-lim-next.false c.if-lim-next-2.true c.halt-then-lim-next-2.ensures
+
+pub returns-then-self-next : goal.returns-then-self-next
+returns-then-self-next c =
+    pays_deeper c.if-self-cost.false c.if-lim-next.false c.if-lim-next-2.false c.if-self-next.true
+
+pub returns-else-self-next : goal.returns-else-self-next
+returns-else-self-next c =
+    pays_no_deeper c.if-self-cost.false c.if-lim-next.false c.if-lim-next-2.false c.if-self-next.false

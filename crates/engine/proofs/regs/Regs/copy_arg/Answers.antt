@@ -1,0 +1,18 @@
+use mathlib.Core.Path.{refl, sym, ◌∙◌}
+use Rattle.engine.proofs.Turning.{turned_as}
+use Rattle.engine.proofs.Moving.{reads_argument, small_argument, copy_arg_low, copy_arg_kind, copy_arg_is}
+use borrow.Author.Tests.{not-true, not-false}
+use borrow.Author.Rules.{rules}
+use Rattle.engine.proofs.regs.Regs.copy_arg.Goals as goal
+
+pub returns-then-fp-a : goal.returns-then-fp-a
+returns-then-fp-a c =
+    λ he wi or. record { each = λ ws hs h m n. copy_arg_low c.requires.fit h wi or _ _ c.if-fp-a.true c.halt.ensures }
+
+pub returns-then-not-is_plain : goal.returns-then-not-is_plain
+returns-then-not-is_plain c =
+    λ he wi or. record { each = λ ws hs h m n. copy_arg_kind c.requires.fit h wi or _ _ c.if-fp-a.false (sym (c.is_plain.ensures _ (reads_argument c.requires.fit h wi or _ _ c.if-fp-a.false refl) (small_argument c.requires.fit h wi or _ m)) ∙ not-true _ c.if-not-is_plain.true-raw) c.halt-then-not-is_plain.ensures }
+
+pub returns : goal.returns
+returns c =
+    λ he wi or. record { each = λ ws hs h m n. let e = reads_argument c.requires.fit h wi or _ _ c.if-fp-a.false refl in turned_as _ _ (copy_arg_is c.requires.fit h wi or _ c.if-fp-a.false (sym (c.is_plain.ensures _ e (small_argument c.requires.fit h wi or _ m)) ∙ not-false _ c.if-not-is_plain.false-raw)) ((c.push.ensures _ he wi or e).each ws hs h m n) }

@@ -1,0 +1,56 @@
+use mathlib.Core.Path.{refl, sym}
+use native.Mathlib.Omega.{arith}
+use lib.ListN.{length-set}
+use lib.Seq.{length-take-le}
+use Rattle.laws.proofs.Words.{bits_raw}
+use Rattle.engine.proofs.Turning.{settle_yes, settle_no, went_on}
+use Rattle.engine.proofs.Areas.{bears_push, bears_take}
+use Rattle.engine.proofs.Building.{bears_two, bits_ref}
+use Rattle.engine.proofs.Yielding.{give_leads}
+use borrow.Author.Rules.{rules}
+use Rattle.engine.proofs.regs.Regs.give.Goals as goal
+
+pub bounds-heap-hp : goal.bounds-heap-hp
+bounds-heap-hp c =
+    let p = went_on c.charge-turn.ensures c.if-turn.true in omega (arith, p.heap, c.requires.stack_in_bounds.1.0)
+
+pub bounds-heap-hp-then-turn : goal.bounds-heap-hp-then-turn
+bounds-heap-hp-then-turn c =
+    let p = went_on c.charge-turn.ensures c.if-turn.true in simp length-set (omega (arith, p.heap, c.requires.stack_in_bounds.1.0))
+
+pub bounds-stack-low : goal.bounds-stack-low
+bounds-stack-low c =
+    let p = went_on c.charge-turn.ensures c.if-turn.true in omega (arith, p.depth, c.requires.stack_in_bounds.0)
+
+pub returns-then-turn : goal.returns-then-turn
+returns-then-turn c =
+    λ t k wi or d.
+    record {
+      each = λ ws hs h m n.
+          settle_yes
+          (give_leads h wi or c.requires.fit _ t k _ _ _ c.requires.stack_in_bounds.1.1.0 c.requires.stack_in_bounds.1.1.1 d) _
+          _ c.charge-turn.ensures c.if-turn.true
+          (λ a b.
+          record {
+            stack =
+                bears_push _ _ _ _ _
+                (bears_take _ ws c.args.low (omega (arith, c.requires.stack_in_bounds.1.1.1, h.sp)) h.stack)
+                (sym (length-take-le c.args.low ws (omega (arith, c.requires.stack_in_bounds.1.1.1, h.sp))))
+                (bits_ref _ _ h.hp) (omega (arith, c.requires.stack_in_bounds.0, a));
+            heap =
+                bears_two _ hs _ _ _ _ _ _ h.heap h.hp refl (sym (bits_raw _)) (sym (bits_raw _))
+                (omega (arith, c.requires.stack_in_bounds.1.0, b));
+            wires = refl;
+            order = refl;
+          });
+    }
+
+pub returns-else-turn : goal.returns-else-turn
+returns-else-turn c =
+    λ t k wi or d.
+    record {
+      each = λ ws hs h m n.
+          settle_no
+          (give_leads h wi or c.requires.fit _ t k _ _ _ c.requires.stack_in_bounds.1.1.0 c.requires.stack_in_bounds.1.1.1 d) _
+          c.charge-turn.ensures c.if-turn.false;
+    }

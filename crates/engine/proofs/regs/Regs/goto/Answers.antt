@@ -1,0 +1,9 @@
+use mathlib.Core.Path.{refl}
+use Rattle.engine.proofs.Turning.{settled}
+use Rattle.engine.proofs.Steering.{goto_leads}
+use borrow.Author.Rules.{rules}
+use Rattle.engine.proofs.regs.Regs.goto.Goals as goal
+
+pub returns : goal.returns
+returns c =
+    λ st he wi or. record { each = λ ws hs h m n. settled (goto_leads c.requires h wi or _ _) _ c.charge_time.ensures (λ a b. record { stack = h.stack; heap = h.heap; wires = refl; order = refl }) }

@@ -1,0 +1,33 @@
+use mathlib.Core.Path.{refl}
+use mathlib.Core.Logic.{⊎_elim}
+use Prim.Native.Nat.{◌-◌}
+use native.Mathlib.Omega.{arith}
+use Rattle.engine.proofs.Turning.{settled}
+use Rattle.engine.proofs.Areas.{bears_without}
+use Rattle.engine.proofs.Steering.{if_few, if_no_ref, if_no_bool, if_jumps, if_stays}
+use borrow.Author.Rules.{rules}
+use Rattle.engine.proofs.regs.Regs.if_true.Goals as goal
+
+pub returns-then-sp-self-lt1 : goal.returns-then-sp-self-lt1
+returns-then-sp-self-lt1 c =
+    λ wi or. record { each = λ ws hs h m n. if_few c.requires.fit h wi or _ _ c.if-sp-self-lt1.true c.halt.ensures }
+
+pub returns-then-w-ne1 : goal.returns-then-w-ne1
+returns-then-w-ne1 c =
+    λ wi or. record { each = λ ws hs h m n. if_no_ref c.requires.fit h wi or m c.if-sp-self-lt1.false _ refl _ _ c.if-w-ne1.true c.halt-then-w-ne1.ensures }
+
+pub bounds-heap-p : goal.bounds-heap-p
+bounds-heap-p c =
+    let k = c.requires.stack_in_bounds.1.1.each (c.args.self.sp - 1) (omega (arith, c.if-sp-self-lt1.false)) c.if-w-ne1.false in omega (arith, k, c.requires.fit.hp, c.requires.stack_in_bounds.1.0)
+
+pub returns-then-heap-p-ne65536 : goal.returns-then-heap-p-ne65536
+returns-then-heap-p-ne65536 c =
+    λ wi or. record { each = λ ws hs h m n. if_no_bool c.requires.fit h wi or m c.if-sp-self-lt1.false _ refl c.requires.stack_in_bounds.1.1 c.if-w-ne1.false _ _ c.if-heap-p-ne65536.true c.halt-then-heap-p-ne65536.ensures }
+
+pub bounds-heap-p-2 : goal.bounds-heap-p-2
+bounds-heap-p-2 c =
+    let k = c.requires.stack_in_bounds.1.1.each (c.args.self.sp - 1) (omega (arith, c.if-sp-self-lt1.false)) c.if-w-ne1.false in omega (arith, k, c.requires.fit.hp, c.requires.stack_in_bounds.1.0)
+
+pub returns : goal.returns
+returns c =
+    λ wi or. record { each = λ ws hs h m n. ⊎_elim (λ w. settled (if_jumps c.requires.fit h wi or m c.if-sp-self-lt1.false _ refl c.requires.stack_in_bounds.1.1 c.if-w-ne1.false _ _ _ c.if-heap-p-ne65536.false w.0.taken w.1) _ c.charge_time.ensures (λ a b. record { stack = bears_without _ _ _ h.stack; heap = h.heap; wires = refl; order = refl })) (λ w. settled (if_stays c.requires.fit h wi or m c.if-sp-self-lt1.false _ refl c.requires.stack_in_bounds.1.1 c.if-w-ne1.false _ _ _ c.if-heap-p-ne65536.false w.0.left w.1) _ c.charge_time.ensures (λ a b. record { stack = bears_without _ _ _ h.stack; heap = h.heap; wires = refl; order = refl })) c.if-heap-p-eq1.branch }

@@ -1,0 +1,24 @@
+use Rattle.engine.proofs.Trying.{attempt_faults, attempt_goes}
+use native.Mathlib.Omega.{arith}
+use borrow.Author.Rules.{rules}
+use Rattle.engine.proofs.regs.Regs.match_cell.Goals as goal
+
+pub compare-t-requires : goal.compare-t-requires
+compare-t-requires c =
+    let f = c.requires.fit in
+    let l = c.requires.imaged.1.1.1.1.0 in
+    record {
+      mp_bound = (f.mp, omega (arith, f.fp, f.lp), omega (arith, f.sp, l.0), omega (arith, f.hp, l.1));
+      refs = c.requires.imaged.1.1.1.1.1;
+    }
+
+pub returns-then-t-ne0 : goal.returns-then-t-ne0
+returns-then-t-ne0 c = λ wi. attempt_faults _ (c.compare-t.ensures _ _ _) c.if-t-ne0.true c.halt.ensures
+
+pub conclude-requires : goal.conclude-requires
+conclude-requires c =
+    (c.requires.fit, (c.requires.imaged.0, (c.requires.imaged.1.0, (c.requires.imaged.1.1.0, c.requires.imaged.1.1.1.0))))
+
+pub returns : goal.returns
+returns c =
+    λ wi. attempt_goes _ (c.compare-t.ensures _ _ _) c.if-t-ne0.false (c.conclude.ensures _ _ _)

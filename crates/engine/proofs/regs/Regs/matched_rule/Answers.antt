@@ -1,0 +1,8 @@
+use Rattle.engine.proofs.Trying.{matched_leads, drops}
+use Rattle.engine.proofs.Turning.{settled}
+use borrow.Author.Rules.{rules}
+use Rattle.engine.proofs.regs.Regs.matched_rule.Goals as goal
+
+pub returns : goal.returns
+returns c =
+    λ st he wi or. record { each = λ ws hs h m n. settled (matched_leads h wi or c.requires _) _ c.charge_time.ensures (λ a b. drops h wi or c.requires) }

@@ -1,0 +1,11 @@
+use mathlib.Core.Path.{sym}
+use Rattle.engine.proofs.Turning.{turned_as}
+use Rattle.engine.proofs.Moving.{mk_none_is}
+use Rattle.engine.proofs.WordKinds.{bits_none}
+use Rattle.hume.specs.Words.{none}
+use borrow.Author.Rules.{rules}
+use Rattle.engine.proofs.regs.Regs.mk_none.Goals as goal
+
+pub returns : goal.returns
+returns c =
+    λ he wi or. record { each = λ ws hs h m n. turned_as _ _ (mk_none_is c.requires.fit h wi or) ((c.push.ensures none he wi or (sym bits_none)).each ws hs h m n) }

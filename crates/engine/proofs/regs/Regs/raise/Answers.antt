@@ -1,0 +1,72 @@
+use mathlib.Core.Path.{refl}
+use native.Mathlib.Omega.{arith}
+use lib.ListN.{length-set}
+use Rattle.engine.proofs.Turning.{settle_yes, settle_no, went_on}
+use Rattle.engine.proofs.Building.{bits_ref}
+use Rattle.engine.proofs.Yielding.{unhandled_stops, raise_leads, bears_thrown, bears_exn}
+use borrow.Author.Rules.{rules}
+use Rattle.engine.proofs.regs.Regs.raise.Goals as goal
+
+pub returns-then-handler-eq255 : goal.returns-then-handler-eq255
+returns-then-handler-eq255 c =
+    λ P t k wi or d z.
+    record { each = λ ws hs h m n. unhandled_stops h wi or _ P t k _ _ _ _ d c.if-handler-eq255.true c.halt.ensures }
+
+pub bounds-heap-hp : goal.bounds-heap-hp
+bounds-heap-hp c =
+    let p = went_on c.charge-turn.ensures c.if-turn.true in omega (arith, p.heap, c.requires.stack_in_bounds.1.0)
+
+pub bounds-heap-hp-then-turn : goal.bounds-heap-hp-then-turn
+bounds-heap-hp-then-turn c =
+    let p = went_on c.charge-turn.ensures c.if-turn.true in simp length-set (omega (arith, p.heap, c.requires.stack_in_bounds.1.0))
+
+pub bounds-heap-hp-then-turn-2 : goal.bounds-heap-hp-then-turn-2
+bounds-heap-hp-then-turn-2 c =
+    let p = went_on c.charge-turn.ensures c.if-turn.true in simp length-set (omega (arith, p.heap, c.requires.stack_in_bounds.1.0))
+
+pub bounds-stack-0 : goal.bounds-stack-0
+bounds-stack-0 c =
+    let p = went_on c.charge-turn.ensures c.if-turn.true in omega (arith, p.depth, c.requires.stack_in_bounds.0)
+
+pub bounds-stack-1 : goal.bounds-stack-1
+bounds-stack-1 c =
+    let p = went_on c.charge-turn.ensures c.if-turn.true in simp length-set (omega (arith, p.depth, c.requires.stack_in_bounds.0))
+
+pub bounds-stack-2 : goal.bounds-stack-2
+bounds-stack-2 c =
+    let p = went_on c.charge-turn.ensures c.if-turn.true in simp length-set (omega (arith, p.depth, c.requires.stack_in_bounds.0))
+
+pub bounds-stack-3 : goal.bounds-stack-3
+bounds-stack-3 c =
+    let p = went_on c.charge-turn.ensures c.if-turn.true in simp length-set (omega (arith, p.depth, c.requires.stack_in_bounds.0))
+
+pub bounds-stack-4 : goal.bounds-stack-4
+bounds-stack-4 c =
+    let p = went_on c.charge-turn.ensures c.if-turn.true in simp length-set (omega (arith, p.depth, c.requires.stack_in_bounds.0))
+
+pub returns-then-turn : goal.returns-then-turn
+returns-then-turn c =
+    λ P t k wi or d z.
+    record {
+      each = λ ws hs h m n.
+          settle_yes (raise_leads h wi or P _ t k _ _ _ _ d c.if-handler-eq255.false z) _ _ c.charge-turn.ensures c.if-turn.true
+          (λ a b.
+          record {
+            stack =
+                bears_thrown c.args.stack.now _ _ (bits_ref _ _ h.hp)
+                (omega (arith, c.requires.stack_in_bounds.0, a));
+            heap =
+                bears_exn c.args.heap.now hs _ _ _ _ h.heap h.hp refl
+                (omega (arith, c.requires.stack_in_bounds.1.0, b));
+            wires = refl;
+            order = refl;
+          });
+    }
+
+pub returns-else-turn : goal.returns-else-turn
+returns-else-turn c =
+    λ P t k wi or d z.
+    record {
+      each = λ ws hs h m n.
+          settle_no (raise_leads h wi or P _ t k _ _ _ _ d c.if-handler-eq255.false z) _ c.charge-turn.ensures c.if-turn.false;
+    }

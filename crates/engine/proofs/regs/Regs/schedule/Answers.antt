@@ -1,0 +1,7 @@
+use Rattle.engine.proofs.Steering.{schedule_turned}
+use borrow.Author.Rules.{rules}
+use Rattle.engine.proofs.regs.Regs.schedule.Goals as goal
+
+pub returns : goal.returns
+returns c =
+    λ st he wi or. record { each = λ ws hs h m n. schedule_turned c.requires h wi or _ c.charge_time-turn.ensures }

@@ -1,0 +1,12 @@
+use Rattle.engine.proofs.Trying.{start_leads, stays}
+use Rattle.engine.proofs.Turning.{settled}
+use borrow.Author.Rules.{rules}
+use Rattle.engine.proofs.regs.Regs.start_matches.Goals as goal
+
+pub rule_at-requires : goal.rule_at-requires
+rule_at-requires c =
+    (c.requires.imaged.0, (c.requires.imaged.1.0, (c.requires.imaged.1.1.0, (c.requires.imaged.1.1.1, c.requires.imaged.0.accepted.some_rule _ c.requires.imaged.1.1.1))))
+
+pub returns : goal.returns
+returns c =
+    λ st he wi. record { each = λ ws hs h m n. settled (start_leads h wi _ _ _ _ c.rule_at.ensures.0) _ c.charge_time.ensures (λ a b. stays h wi _) }

@@ -1,0 +1,14 @@
+use mathlib.Core.Path.{◌≡◌, refl, ap, ◌∙◌}
+use mathlib.Core.List.{List}
+use Prim.Native.Nat.{ℕ, ◌+◌, ◌-◌, ◌≤◌}
+use native.Mathlib.Omega.{arith}
+use lib.ListN.{length, set, replicate, length-set}
+use lib.Seq.{paste, paste-zero}
+use Rattle.engine.proofs.Outputs.{clear_more}
+use Rattle.engine.proofs.wiring.clear_wire.Given as goal
+
+abbrev pub invariant-loop-i : goal.invariant-loop-i
+invariant-loop-i l = (l.i ≤ 65) × (length l.wires ≡ length l.initial.wires) × (l.wires ≡ paste l.initial.wires l.at (replicate 65 0) l.i)
+
+abbrev pub decreases-loop-i : goal.decreases-loop-i
+decreases-loop-i l = 65 - l.i
