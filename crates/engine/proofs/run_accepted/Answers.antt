@@ -12,11 +12,19 @@ layout-table-requires c = tt
 
 pub fix-fixed-requires : goal.fix-fixed-requires
 fix-fixed-requires c =
-    (an_image _ _ _ _ _ _ _ _ _ c.requires (bytes_of c.shared_slice_known-1.given), (placed_of (laid_out c.layout-table.ensures), long_enough _ _ _ _ _ _ _ _ _ c.requires (bytes_of c.shared_slice_known-1.given)))
+    record {
+      imaged = an_image _ _ _ _ _ _ _ _ _ c.requires (bytes_of c.shared_slice_known-1.given);
+      placed = placed_of (laid_out c.layout-table.ensures);
+      in_bounds = long_enough _ _ _ _ _ _ _ _ _ c.requires (bytes_of c.shared_slice_known-1.given);
+    }
 
 pub entry_of-requires : goal.entry_of-requires
 entry_of-requires c =
-    (an_image _ _ _ _ _ _ _ _ _ c.requires (bytes_of c.shared_slice_known-1.given), (placed_of (laid_out c.layout-table.ensures), some_ruleset _ _ _ _ _ _ _ _ _ c.requires (bytes_of c.shared_slice_known-1.given)))
+    record {
+      imaged = an_image _ _ _ _ _ _ _ _ _ c.requires (bytes_of c.shared_slice_known-1.given);
+      placed = placed_of (laid_out c.layout-table.ensures);
+      a_bound = some_ruleset _ _ _ _ _ _ _ _ _ c.requires (bytes_of c.shared_slice_known-1.given);
+    }
 
 pub begin-first-requires : goal.begin-first-requires
 begin-first-requires c = tt

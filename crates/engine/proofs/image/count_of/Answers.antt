@@ -5,13 +5,11 @@ use borrow.Author.Rules.{rules}
 use Rattle.engine.proofs.image.count_of.Goals as goal
 
 pub overflow_add-at : goal.overflow_add-at
-overflow_add-at c =
-    omega (arith, place_room c.requires.imaged c.requires.placed.0 c.args.r c.requires.placed.1)
+overflow_add-at c = omega (arith, place_room c.requires.imaged c.requires.placed c.args.r c.requires.r_bound)
 
 pub byte-requires : goal.byte-requires
-byte-requires c =
-    omega (arith, place_room c.requires.imaged c.requires.placed.0 c.args.r c.requires.placed.1)
+byte-requires c = omega (arith, place_room c.requires.imaged c.requires.placed c.args.r c.requires.r_bound)
 
 pub returns : goal.returns
 returns c =
-    let e = c.byte.ensures.0 ∙ count_at c.requires.imaged c.requires.placed.0 _ c.requires.placed.1 in (e, omega (arith, e, c.requires.imaged.accepted.rules c.args.r c.requires.placed.1))
+    let e = c.byte.ensures.0 ∙ count_at c.requires.imaged c.requires.placed _ c.requires.r_bound in (e, omega (arith, e, c.requires.imaged.accepted.rules c.args.r c.requires.r_bound))

@@ -8,11 +8,11 @@ use Rattle.engine.proofs.prims.prim1.Goals as goal
 pub returns-in-2 : goal.returns-in-2
 unfolding prim1 one_operand
 returns-in-2 c =
-    arm prim1 c.args.a c.args.h c.args.x 0 2 _ _ (ap prim1 c.in-2.keys1) c.keep.ensures
+    arm prim1 c.args.a c.args.h c.args.x 0 2 _ _ (ap prim1 c.in-2.is) c.keep.ensures
     c.to_float.ensures refl
 
 pub returns-in-3 : goal.returns-in-3
-returns-in-3 c = arm_cut _ _ _ _ c.in-3.keys2 c.converted.ensures c.to_int.ensures
+returns-in-3 c = arm_cut _ _ _ _ c.in-3.is c.converted.ensures c.to_int.ensures
 
 pub returns-in-0 : goal.returns-in-0
 unfolding prim1 one_operand is_true

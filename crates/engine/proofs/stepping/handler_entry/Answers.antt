@@ -7,7 +7,11 @@ returns-then-handler-eq255 c = λ n. absurd (n c.if-handler-eq255.true)
 
 pub entry_of-requires : goal.entry_of-requires
 entry_of-requires c =
-    (c.requires.imaged, (c.requires.placed.0, handler_below c.requires.imaged _ c.requires.placed.1 c.if-handler-eq255.false))
+    record {
+      imaged = c.requires.imaged;
+      placed = c.requires.placed;
+      a_bound = handler_below c.requires.imaged _ c.requires.handler_value c.if-handler-eq255.false;
+    }
 
 pub returns : goal.returns
 returns c = λ n. sym c.entry_of.ensures.0

@@ -11,29 +11,29 @@ loop-i-init c = (omega arith, λ k h. absurd (not-suc-le-zero h))
 
 pub overflow_add-i : goal.overflow_add-i
 overflow_add-i c =
-    omega (arith, c.loop-i-test.true, c.requires.n_le_sp, c.requires.sp_in_bounds.0, c.well_formed)
+    omega (arith, c.loop-i-test.true, c.requires.n_le_sp, c.requires.sp_in_bounds, c.well_formed)
 
 pub overflow_sub-sp : goal.overflow_sub-sp
 overflow_sub-sp c = omega (arith, c.loop-i-test.true, c.requires.n_le_sp)
 
 pub offset_bounds-stack-sp : goal.offset_bounds-stack-sp
 offset_bounds-stack-sp c =
-    omega (arith, c.loop-i-test.true, c.requires.n_le_sp, c.requires.sp_in_bounds.0, c.well_formed)
+    omega (arith, c.loop-i-test.true, c.requires.n_le_sp, c.requires.sp_in_bounds, c.well_formed)
 
 pub bounds-stack-sp : goal.bounds-stack-sp
-bounds-stack-sp c = omega (arith, c.loop-i-test.true, c.requires.n_le_sp, c.requires.sp_in_bounds.0)
+bounds-stack-sp c = omega (arith, c.loop-i-test.true, c.requires.n_le_sp, c.requires.sp_in_bounds)
 
 pub overflow_add-inputs : goal.overflow_add-inputs
-overflow_add-inputs c = omega (arith, c.loop-i-test.true, c.requires.sp_in_bounds.1, c.well_formed)
+overflow_add-inputs c = omega (arith, c.loop-i-test.true, c.requires.n_in_bounds, c.well_formed)
 
 pub overflow_mul-inputs : goal.overflow_mul-inputs
-overflow_mul-inputs c = omega (arith, c.loop-i-test.true, c.requires.sp_in_bounds.1, c.well_formed)
+overflow_mul-inputs c = omega (arith, c.loop-i-test.true, c.requires.n_in_bounds, c.well_formed)
 
 pub offset_bounds-wires-inputs : goal.offset_bounds-wires-inputs
-offset_bounds-wires-inputs c = omega (arith, c.loop-i-test.true, c.requires.sp_in_bounds.1, c.well_formed)
+offset_bounds-wires-inputs c = omega (arith, c.loop-i-test.true, c.requires.n_in_bounds, c.well_formed)
 
 pub bounds-wires-inputs : goal.bounds-wires-inputs
-bounds-wires-inputs c = omega (arith, c.loop-i-test.true, c.requires.sp_in_bounds.1)
+bounds-wires-inputs c = omega (arith, c.loop-i-test.true, c.requires.n_in_bounds)
 
 pub returns-then-wires-inputs-ne0 : goal.returns-then-wires-inputs-ne0
 returns-then-wires-inputs-ne0 c =
@@ -41,7 +41,7 @@ returns-then-wires-inputs-ne0 c =
 
 pub overflow_add-i-in-loop-i : goal.overflow_add-i-in-loop-i
 overflow_add-i-in-loop-i c =
-    omega (arith, c.loop-i-test.true, c.requires.n_le_sp, c.requires.sp_in_bounds.0, c.well_formed)
+    omega (arith, c.loop-i-test.true, c.requires.n_le_sp, c.requires.sp_in_bounds, c.well_formed)
 
 pub loop-i-smaller : goal.loop-i-smaller
 loop-i-smaller c = omega (arith, c.loop-i-test.true)

@@ -13,7 +13,13 @@ returns-then-count-self c =
 
 pub rule_at-requires : goal.rule_at-requires
 rule_at-requires c =
-    (c.requires.imaged.0, (c.requires.imaged.1.0, (c.requires.imaged.1.1.0, (c.requires.imaged.1.1.1, rw c.count_of-count.ensures.0 at c.if-count-self.false))))
+    record {
+      imaged = c.requires.imaged;
+      located = c.requires.located;
+      order_fits = c.requires.order_fits;
+      rs_bound = c.requires.rs_bound;
+      k_bound = rw c.count_of-count.ensures.0 at c.if-count-self.false;
+    }
 
 pub returns : goal.returns
 returns c =

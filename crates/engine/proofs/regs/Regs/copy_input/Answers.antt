@@ -9,7 +9,7 @@ use borrow.Author.Rules.{rules}
 use Rattle.engine.proofs.regs.Regs.copy_input.Goals as goal
 
 pub overflow_mul-at : goal.overflow_mul-at
-overflow_mul-at c = let f = c.requires.stack_in_bounds.1.1 in omega (arith, f.long, f.inside, c.well_formed)
+overflow_mul-at c = let f = c.requires.wire_fits in omega (arith, f.long, f.inside, c.well_formed)
 
 pub overflow_cast-k : goal.overflow_cast-k
 overflow_cast-k c = omega (arith, c.shared_slice_known-2-1.given (65 * c.args.a))
@@ -20,25 +20,25 @@ returns-then-k-eq0 c =
 
 pub overflow_add-at : goal.overflow_add-at
 overflow_add-at c =
-    let u = input_at c.requires.stack_in_bounds.1.1 c.if-k-eq0.false in omega (arith, u.inside, c.well_formed)
+    let u = input_at c.requires.wire_fits c.if-k-eq0.false in omega (arith, u.inside, c.well_formed)
 
 pub count_words-grown-requires : goal.count_words-grown-requires
 count_words-grown-requires c =
-    let u = input_at c.requires.stack_in_bounds.1.1 c.if-k-eq0.false in record {
+    let u = input_at c.requires.wire_fits c.if-k-eq0.false in record {
       k_in_bounds = u.inside;
       le_k = omega (arith, c.if-k-eq0.false);
     }
 
 pub overflow_add-next-2 : goal.overflow_add-next-2
 overflow_add-next-2 c =
-    let u = input_at c.requires.stack_in_bounds.1.1 c.if-k-eq0.false in
+    let u = input_at c.requires.wire_fits c.if-k-eq0.false in
     let e = input_size u _ c.count_words-grown.ensures in
     let few = input_few u in
     omega (arith, c.requires.fit.hp, c.requires.fit.heap_cap)
 
 pub overflow_add-at-then-turn : goal.overflow_add-at-then-turn
 overflow_add-at-then-turn c =
-    let u = input_at c.requires.stack_in_bounds.1.1 c.if-k-eq0.false in omega (arith, u.inside, c.well_formed)
+    let u = input_at c.requires.wire_fits c.if-k-eq0.false in omega (arith, u.inside, c.well_formed)
 
 pub overflow_add-hp : goal.overflow_add-hp
 overflow_add-hp c =
@@ -46,27 +46,27 @@ overflow_add-hp c =
 
 pub place-requires : goal.place-requires
 place-requires c =
-    let u = input_at c.requires.stack_in_bounds.1.1 c.if-k-eq0.false in
+    let u = input_at c.requires.wire_fits c.if-k-eq0.false in
     let e = input_size u _ c.count_words-grown.ensures in
     let pd = went_on c.charge-turn.ensures c.if-turn.true in
-    input_here u _ _ _ (omega (arith, e)) (omega (arith, pd.heap, c.requires.fit.heap_cap)) (omega (arith, pd.heap, c.requires.stack_in_bounds.1.0))
+    input_here u _ _ _ (omega (arith, e)) (omega (arith, pd.heap, c.requires.fit.heap_cap)) (omega (arith, pd.heap, c.requires.heap_in_bounds))
 
 pub bounds-stack-sp : goal.bounds-stack-sp
 bounds-stack-sp c =
-    let pd = went_on c.charge-turn.ensures c.if-turn.true in omega (arith, pd.depth, c.requires.stack_in_bounds.0)
+    let pd = went_on c.charge-turn.ensures c.if-turn.true in omega (arith, pd.depth, c.requires.stack_in_bounds)
 
 pub returns-then-turn : goal.returns-then-turn
 returns-then-turn c =
     λ or. record {
       each = λ ws hs h m n.
-          let u = input_at c.requires.stack_in_bounds.1.1 c.if-k-eq0.false in
+          let u = input_at c.requires.wire_fits c.if-k-eq0.false in
           let e = input_size u _ c.count_words-grown.ensures in
           let pd = went_on c.charge-turn.ensures c.if-turn.true in
-          let fits : c.args.self.hp + size u.value ≤ length c.args.heap.now = omega (arith, e, pd.heap, c.requires.stack_in_bounds.1.0) in
-          let p = input_placed u (omega (arith, e)) (omega (arith, pd.heap, c.requires.fit.heap_cap)) (omega (arith, pd.heap, c.requires.stack_in_bounds.1.0)) c.place.ensures in
+          let fits : c.args.self.hp + size u.value ≤ length c.args.heap.now = omega (arith, e, pd.heap, c.requires.heap_in_bounds) in
+          let p = input_placed u (omega (arith, e)) (omega (arith, pd.heap, c.requires.fit.heap_cap)) (omega (arith, pd.heap, c.requires.heap_in_bounds)) c.place.ensures in
           settle_yes (copy_leads c.requires.fit h _ or _ u _ _ c.if-k-eq0.false e) _ _ c.charge-turn.ensures c.if-turn.true
           (λ x y. record {
-            stack = copy_stack c.requires.fit h _ or c.args.a u p (omega (arith, pd.depth, c.requires.stack_in_bounds.0));
+            stack = copy_stack c.requires.fit h _ or c.args.a u p (omega (arith, pd.depth, c.requires.stack_in_bounds));
             heap = copy_heap c.requires.fit h _ or c.args.a u p fits;
             wires = refl;
             order = refl;
@@ -77,7 +77,7 @@ pub returns-else-turn : goal.returns-else-turn
 returns-else-turn c =
     λ or. record {
       each = λ ws hs h m n.
-          let u = input_at c.requires.stack_in_bounds.1.1 c.if-k-eq0.false in
+          let u = input_at c.requires.wire_fits c.if-k-eq0.false in
           let e = input_size u _ c.count_words-grown.ensures in
           settle_no (copy_leads c.requires.fit h _ or _ u _ _ c.if-k-eq0.false e) _ c.charge-turn.ensures c.if-turn.false;
     }

@@ -12,15 +12,15 @@ use Rattle.engine.proofs.regs.Regs.give.Goals as goal
 
 pub bounds-heap-hp : goal.bounds-heap-hp
 bounds-heap-hp c =
-    let p = went_on c.charge-turn.ensures c.if-turn.true in omega (arith, p.heap, c.requires.stack_in_bounds.1.0)
+    let p = went_on c.charge-turn.ensures c.if-turn.true in omega (arith, p.heap, c.requires.heap_in_bounds)
 
 pub bounds-heap-hp-then-turn : goal.bounds-heap-hp-then-turn
 bounds-heap-hp-then-turn c =
-    let p = went_on c.charge-turn.ensures c.if-turn.true in simp length-set (omega (arith, p.heap, c.requires.stack_in_bounds.1.0))
+    let p = went_on c.charge-turn.ensures c.if-turn.true in simp length-set (omega (arith, p.heap, c.requires.heap_in_bounds))
 
 pub bounds-stack-low : goal.bounds-stack-low
 bounds-stack-low c =
-    let p = went_on c.charge-turn.ensures c.if-turn.true in omega (arith, p.depth, c.requires.stack_in_bounds.0)
+    let p = went_on c.charge-turn.ensures c.if-turn.true in omega (arith, p.depth, c.requires.stack_in_bounds)
 
 pub returns-then-turn : goal.returns-then-turn
 returns-then-turn c =
@@ -28,18 +28,18 @@ returns-then-turn c =
     record {
       each = λ ws hs h m n.
           settle_yes
-          (give_leads h wi or c.requires.fit _ t k _ _ _ c.requires.stack_in_bounds.1.1.0 c.requires.stack_in_bounds.1.1.1 d) _
+          (give_leads h wi or c.requires.fit _ t k _ _ _ c.requires.lp_le_low.0 c.requires.lp_le_low.1 d) _
           _ c.charge-turn.ensures c.if-turn.true
           (λ a b.
           record {
             stack =
                 bears_push _ _ _ _ _
-                (bears_take _ ws c.args.low (omega (arith, c.requires.stack_in_bounds.1.1.1, h.sp)) h.stack)
-                (sym (length-take-le c.args.low ws (omega (arith, c.requires.stack_in_bounds.1.1.1, h.sp))))
-                (bits_ref _ _ h.hp) (omega (arith, c.requires.stack_in_bounds.0, a));
+                (bears_take _ ws c.args.low (omega (arith, c.requires.lp_le_low.1, h.sp)) h.stack)
+                (sym (length-take-le c.args.low ws (omega (arith, c.requires.lp_le_low.1, h.sp))))
+                (bits_ref _ _ h.hp) (omega (arith, c.requires.stack_in_bounds, a));
             heap =
                 bears_two _ hs _ _ _ _ _ _ h.heap h.hp refl (sym (bits_raw _)) (sym (bits_raw _))
-                (omega (arith, c.requires.stack_in_bounds.1.0, b));
+                (omega (arith, c.requires.heap_in_bounds, b));
             wires = refl;
             order = refl;
           });
@@ -51,6 +51,6 @@ returns-else-turn c =
     record {
       each = λ ws hs h m n.
           settle_no
-          (give_leads h wi or c.requires.fit _ t k _ _ _ c.requires.stack_in_bounds.1.1.0 c.requires.stack_in_bounds.1.1.1 d) _
+          (give_leads h wi or c.requires.fit _ t k _ _ _ c.requires.lp_le_low.0 c.requires.lp_le_low.1 d) _
           c.charge-turn.ensures c.if-turn.false;
     }

@@ -12,7 +12,7 @@ returns-then-sp-self-lt1 c =
 
 pub returns-then-not-has_frame : goal.returns-then-not-has_frame
 returns-then-not-has_frame c =
-    λ he wi or. record { each = λ ws hs h m n. return_bad c.requires.fit h wi or m _ c.if-sp-self-lt1.false c.requires.stack_in_bounds.1 (sym c.has_frame.ensures ∙ not-true _ c.if-not-has_frame.true-raw) c.halt-then-not-has_frame.ensures }
+    λ he wi or. record { each = λ ws hs h m n. return_bad c.requires.fit h wi or m _ c.if-sp-self-lt1.false c.requires.framed (sym c.has_frame.ensures ∙ not-true _ c.if-not-has_frame.true-raw) c.halt-then-not-has_frame.ensures }
 
 pub overflow_sub-ruled : goal.overflow_sub-ruled
 overflow_sub-ruled c =
@@ -32,7 +32,7 @@ overflow_sub-next-2 c =
 
 pub locals_end-requires : goal.locals_end-requires
 locals_end-requires c =
-    let d = framed_deep _ _ (sym c.has_frame.ensures ∙ not-false _ c.if-not-has_frame.false-raw) in let k = c.requires.stack_in_bounds.1.back (omega (arith, d)) in omega (arith, k, c.requires.fit, c.requires.stack_in_bounds.0)
+    let d = framed_deep _ _ (sym c.has_frame.ensures ∙ not-false _ c.if-not-has_frame.false-raw) in let k = c.requires.framed.back (omega (arith, d)) in omega (arith, k, c.requires.fit, c.requires.stack_in_bounds)
 
 pub overflow_sub-next-3 : goal.overflow_sub-next-3
 overflow_sub-next-3 c =
@@ -44,8 +44,8 @@ overflow_sub-stack c =
 
 pub returns-then-turn : goal.returns-then-turn
 returns-then-turn c =
-    let d = framed_deep _ _ (sym c.has_frame.ensures ∙ not-false _ c.if-not-has_frame.false-raw) in λ he wi or. record { each = λ ws hs h m n. settle_yes (return_leads c.requires.fit h wi or m _ _ c.if-sp-self-lt1.false c.requires.stack_in_bounds.1 (sym c.has_frame.ensures ∙ not-false _ c.if-not-has_frame.false-raw) (c.locals_end.ensures ws h.stack (omega (arith, d, c.requires.stack_in_bounds.1.back (omega arith), h.sp, c.requires.fit.fp, c.requires.fit.lp)))) _ _ c.charge_time-turn.ensures c.if-turn.true (λ a b. record { stack = return_bears c.requires.fit h wi or m _ d (omega (arith, c.requires.fit.sp, c.requires.stack_in_bounds.0)) (reads_below h 0 _ (omega (arith, c.if-sp-self-lt1.false)) refl); heap = h.heap; wires = refl; order = refl }) }
+    let d = framed_deep _ _ (sym c.has_frame.ensures ∙ not-false _ c.if-not-has_frame.false-raw) in λ he wi or. record { each = λ ws hs h m n. settle_yes (return_leads c.requires.fit h wi or m _ _ c.if-sp-self-lt1.false c.requires.framed (sym c.has_frame.ensures ∙ not-false _ c.if-not-has_frame.false-raw) (c.locals_end.ensures ws h.stack (omega (arith, d, c.requires.framed.back (omega arith), h.sp, c.requires.fit.fp, c.requires.fit.lp)))) _ _ c.charge_time-turn.ensures c.if-turn.true (λ a b. record { stack = return_bears c.requires.fit h wi or m _ d (omega (arith, c.requires.fit.sp, c.requires.stack_in_bounds)) (reads_below h 0 _ (omega (arith, c.if-sp-self-lt1.false)) refl); heap = h.heap; wires = refl; order = refl }) }
 
 pub returns-else-turn : goal.returns-else-turn
 returns-else-turn c =
-    let d = framed_deep _ _ (sym c.has_frame.ensures ∙ not-false _ c.if-not-has_frame.false-raw) in λ he wi or. record { each = λ ws hs h m n. settle_no (return_leads c.requires.fit h wi or m _ _ c.if-sp-self-lt1.false c.requires.stack_in_bounds.1 (sym c.has_frame.ensures ∙ not-false _ c.if-not-has_frame.false-raw) (c.locals_end.ensures ws h.stack (omega (arith, d, c.requires.stack_in_bounds.1.back (omega arith), h.sp, c.requires.fit.fp, c.requires.fit.lp)))) _ c.charge_time-turn.ensures c.if-turn.false }
+    let d = framed_deep _ _ (sym c.has_frame.ensures ∙ not-false _ c.if-not-has_frame.false-raw) in λ he wi or. record { each = λ ws hs h m n. settle_no (return_leads c.requires.fit h wi or m _ _ c.if-sp-self-lt1.false c.requires.framed (sym c.has_frame.ensures ∙ not-false _ c.if-not-has_frame.false-raw) (c.locals_end.ensures ws h.stack (omega (arith, d, c.requires.framed.back (omega arith), h.sp, c.requires.fit.fp, c.requires.fit.lp)))) _ c.charge_time-turn.ensures c.if-turn.false }

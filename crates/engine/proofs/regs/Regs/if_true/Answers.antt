@@ -18,16 +18,16 @@ returns-then-w-ne1 c =
 
 pub bounds-heap-p : goal.bounds-heap-p
 bounds-heap-p c =
-    let k = c.requires.stack_in_bounds.1.1.each (c.args.self.sp - 1) (omega (arith, c.if-sp-self-lt1.false)) c.if-w-ne1.false in omega (arith, k, c.requires.fit.hp, c.requires.stack_in_bounds.1.0)
+    let k = c.requires.refs.each (c.args.self.sp - 1) (omega (arith, c.if-sp-self-lt1.false)) c.if-w-ne1.false in omega (arith, k, c.requires.fit.hp, c.requires.heap_in_bounds)
 
 pub returns-then-heap-p-ne65536 : goal.returns-then-heap-p-ne65536
 returns-then-heap-p-ne65536 c =
-    λ wi or. record { each = λ ws hs h m n. if_no_bool c.requires.fit h wi or m c.if-sp-self-lt1.false _ refl c.requires.stack_in_bounds.1.1 c.if-w-ne1.false _ _ c.if-heap-p-ne65536.true c.halt-then-heap-p-ne65536.ensures }
+    λ wi or. record { each = λ ws hs h m n. if_no_bool c.requires.fit h wi or m c.if-sp-self-lt1.false _ refl c.requires.refs c.if-w-ne1.false _ _ c.if-heap-p-ne65536.true c.halt-then-heap-p-ne65536.ensures }
 
 pub bounds-heap-p-2 : goal.bounds-heap-p-2
 bounds-heap-p-2 c =
-    let k = c.requires.stack_in_bounds.1.1.each (c.args.self.sp - 1) (omega (arith, c.if-sp-self-lt1.false)) c.if-w-ne1.false in omega (arith, k, c.requires.fit.hp, c.requires.stack_in_bounds.1.0)
+    let k = c.requires.refs.each (c.args.self.sp - 1) (omega (arith, c.if-sp-self-lt1.false)) c.if-w-ne1.false in omega (arith, k, c.requires.fit.hp, c.requires.heap_in_bounds)
 
 pub returns : goal.returns
 returns c =
-    λ wi or. record { each = λ ws hs h m n. ⊎_elim (λ w. settled (if_jumps c.requires.fit h wi or m c.if-sp-self-lt1.false _ refl c.requires.stack_in_bounds.1.1 c.if-w-ne1.false _ _ _ c.if-heap-p-ne65536.false w.0.taken w.1) _ c.charge_time.ensures (λ a b. record { stack = bears_without _ _ _ h.stack; heap = h.heap; wires = refl; order = refl })) (λ w. settled (if_stays c.requires.fit h wi or m c.if-sp-self-lt1.false _ refl c.requires.stack_in_bounds.1.1 c.if-w-ne1.false _ _ _ c.if-heap-p-ne65536.false w.0.left w.1) _ c.charge_time.ensures (λ a b. record { stack = bears_without _ _ _ h.stack; heap = h.heap; wires = refl; order = refl })) c.if-heap-p-eq1.branch }
+    λ wi or. record { each = λ ws hs h m n. ⊎_elim (λ w. settled (if_jumps c.requires.fit h wi or m c.if-sp-self-lt1.false _ refl c.requires.refs c.if-w-ne1.false _ _ _ c.if-heap-p-ne65536.false w.0.taken w.1) _ c.charge_time.ensures (λ a b. record { stack = bears_without _ _ _ h.stack; heap = h.heap; wires = refl; order = refl })) (λ w. settled (if_stays c.requires.fit h wi or m c.if-sp-self-lt1.false _ refl c.requires.refs c.if-w-ne1.false _ _ _ c.if-heap-p-ne65536.false w.0.left w.1) _ c.charge_time.ensures (λ a b. record { stack = bears_without _ _ _ h.stack; heap = h.heap; wires = refl; order = refl })) c.if-heap-p-eq1.branch }

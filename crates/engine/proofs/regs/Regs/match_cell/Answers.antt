@@ -6,10 +6,10 @@ use Rattle.engine.proofs.regs.Regs.match_cell.Goals as goal
 pub compare-t-requires : goal.compare-t-requires
 compare-t-requires c =
     let f = c.requires.fit in
-    let l = c.requires.imaged.1.1.1.1.0 in
+    let l = c.requires.stack_in_bounds in
     record {
       mp_bound = (f.mp, omega (arith, f.fp, f.lp), omega (arith, f.sp, l.0), omega (arith, f.hp, l.1));
-      refs = c.requires.imaged.1.1.1.1.1;
+      refs = c.requires.refs;
     }
 
 pub returns-then-t-ne0 : goal.returns-then-t-ne0
@@ -17,7 +17,13 @@ returns-then-t-ne0 c = λ wi. attempt_faults _ (c.compare-t.ensures _ _ _) c.if-
 
 pub conclude-requires : goal.conclude-requires
 conclude-requires c =
-    (c.requires.fit, (c.requires.imaged.0, (c.requires.imaged.1.0, (c.requires.imaged.1.1.0, c.requires.imaged.1.1.1.0))))
+    record {
+      fit = c.requires.fit;
+      imaged = c.requires.imaged;
+      located = c.requires.located;
+      order_fits = c.requires.order_fits;
+      rs_bound = c.requires.rs_bound;
+    }
 
 pub returns : goal.returns
 returns c =

@@ -23,23 +23,23 @@ returns-then-not-all_values c =
 
 pub bounds-heap-hp : goal.bounds-heap-hp
 bounds-heap-hp c =
-    let p = went_on c.charge-turn.ensures c.if-turn.true in omega (arith, p.heap, c.requires.stack_in_bounds.1.0)
+    let p = went_on c.charge-turn.ensures c.if-turn.true in omega (arith, p.heap, c.requires.heap_in_bounds)
 
 pub bounds-heap-hp-then-turn : goal.bounds-heap-hp-then-turn
 bounds-heap-hp-then-turn c =
-    let p = went_on c.charge-turn.ensures c.if-turn.true in simp length-set (omega (arith, p.heap, c.requires.stack_in_bounds.1.0))
+    let p = went_on c.charge-turn.ensures c.if-turn.true in simp length-set (omega (arith, p.heap, c.requires.heap_in_bounds))
 
 pub put_fields-requires : goal.put_fields-requires
 put_fields-requires c =
     let p = went_on c.charge-turn.ensures c.if-turn.true in (
       omega (arith, c.if-sp-self.false),
-      omega (arith, c.requires.fit.sp, c.requires.stack_in_bounds.0),
-      simp length-set (omega (arith, p.heap, c.requires.stack_in_bounds.1.0)),
+      omega (arith, c.requires.fit.sp, c.requires.stack_in_bounds),
+      simp length-set (omega (arith, p.heap, c.requires.heap_in_bounds)),
     )
 
 pub bounds-stack-low : goal.bounds-stack-low
 bounds-stack-low c =
-    let p = went_on c.charge-turn.ensures c.if-turn.true in omega (arith, p.depth, c.requires.stack_in_bounds.0)
+    let p = went_on c.charge-turn.ensures c.if-turn.true in omega (arith, p.depth, c.requires.stack_in_bounds)
 
 pub shape_of-heap : goal.shape_of-heap
 shape_of-heap c = c.put_fields.ensures.long ∙ simp length-set
@@ -57,10 +57,10 @@ returns-then-turn c =
           record {
             stack =
                 bears_push _ _ _ _ _ (bears_without _ ws _ h.stack) (without_sp c.requires.fit h wi or _)
-                (bits_ref _ _ h.hp) (omega (arith, c.requires.stack_in_bounds.0, a));
+                (bits_ref _ _ h.hp) (omega (arith, c.requires.stack_in_bounds, a));
             heap =
                 bears_block c.requires.fit h wi or _ _ _ _ _ (omega (arith, c.if-sp-self.false)) c.put_fields.ensures
-                refl refl refl (omega (arith, c.requires.stack_in_bounds.1.0, b));
+                refl refl refl (omega (arith, c.requires.heap_in_bounds, b));
             wires = refl;
             order = refl;
           });

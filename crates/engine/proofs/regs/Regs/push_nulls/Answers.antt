@@ -7,11 +7,11 @@ use Rattle.engine.proofs.regs.Regs.push_nulls.Goals as goal
 
 pub blank-requires : goal.blank-requires
 blank-requires c =
-    let p = went_on c.charge_depth-turn.ensures c.if-turn.true in omega (arith, p.depth, c.requires.stack_in_bounds.0)
+    let p = went_on c.charge_depth-turn.ensures c.if-turn.true in omega (arith, p.depth, c.requires.stack_in_bounds)
 
 pub returns-then-turn : goal.returns-then-turn
 returns-then-turn c =
-    λ he wi or. record { each = λ ws hs h m n. settle_yes (push_nulls_leads c.requires.fit h wi or _ c.args.a) _ _ c.charge_depth-turn.ensures c.if-turn.true (λ a b. record { stack = push_nulls_bears c.requires.fit h wi or c.args.a _ (omega (arith, a, c.requires.stack_in_bounds.0)) c.blank.ensures; heap = h.heap; wires = refl; order = refl }) }
+    λ he wi or. record { each = λ ws hs h m n. settle_yes (push_nulls_leads c.requires.fit h wi or _ c.args.a) _ _ c.charge_depth-turn.ensures c.if-turn.true (λ a b. record { stack = push_nulls_bears c.requires.fit h wi or c.args.a _ (omega (arith, a, c.requires.stack_in_bounds)) c.blank.ensures; heap = h.heap; wires = refl; order = refl }) }
 
 pub returns-else-turn : goal.returns-else-turn
 returns-else-turn c =

@@ -14,35 +14,35 @@ returns-then-handler-eq255 c =
 
 pub bounds-heap-hp : goal.bounds-heap-hp
 bounds-heap-hp c =
-    let p = went_on c.charge-turn.ensures c.if-turn.true in omega (arith, p.heap, c.requires.stack_in_bounds.1.0)
+    let p = went_on c.charge-turn.ensures c.if-turn.true in omega (arith, p.heap, c.requires.heap_in_bounds)
 
 pub bounds-heap-hp-then-turn : goal.bounds-heap-hp-then-turn
 bounds-heap-hp-then-turn c =
-    let p = went_on c.charge-turn.ensures c.if-turn.true in simp length-set (omega (arith, p.heap, c.requires.stack_in_bounds.1.0))
+    let p = went_on c.charge-turn.ensures c.if-turn.true in simp length-set (omega (arith, p.heap, c.requires.heap_in_bounds))
 
 pub bounds-heap-hp-then-turn-2 : goal.bounds-heap-hp-then-turn-2
 bounds-heap-hp-then-turn-2 c =
-    let p = went_on c.charge-turn.ensures c.if-turn.true in simp length-set (omega (arith, p.heap, c.requires.stack_in_bounds.1.0))
+    let p = went_on c.charge-turn.ensures c.if-turn.true in simp length-set (omega (arith, p.heap, c.requires.heap_in_bounds))
 
 pub bounds-stack-0 : goal.bounds-stack-0
 bounds-stack-0 c =
-    let p = went_on c.charge-turn.ensures c.if-turn.true in omega (arith, p.depth, c.requires.stack_in_bounds.0)
+    let p = went_on c.charge-turn.ensures c.if-turn.true in omega (arith, p.depth, c.requires.stack_in_bounds)
 
 pub bounds-stack-1 : goal.bounds-stack-1
 bounds-stack-1 c =
-    let p = went_on c.charge-turn.ensures c.if-turn.true in simp length-set (omega (arith, p.depth, c.requires.stack_in_bounds.0))
+    let p = went_on c.charge-turn.ensures c.if-turn.true in simp length-set (omega (arith, p.depth, c.requires.stack_in_bounds))
 
 pub bounds-stack-2 : goal.bounds-stack-2
 bounds-stack-2 c =
-    let p = went_on c.charge-turn.ensures c.if-turn.true in simp length-set (omega (arith, p.depth, c.requires.stack_in_bounds.0))
+    let p = went_on c.charge-turn.ensures c.if-turn.true in simp length-set (omega (arith, p.depth, c.requires.stack_in_bounds))
 
 pub bounds-stack-3 : goal.bounds-stack-3
 bounds-stack-3 c =
-    let p = went_on c.charge-turn.ensures c.if-turn.true in simp length-set (omega (arith, p.depth, c.requires.stack_in_bounds.0))
+    let p = went_on c.charge-turn.ensures c.if-turn.true in simp length-set (omega (arith, p.depth, c.requires.stack_in_bounds))
 
 pub bounds-stack-4 : goal.bounds-stack-4
 bounds-stack-4 c =
-    let p = went_on c.charge-turn.ensures c.if-turn.true in simp length-set (omega (arith, p.depth, c.requires.stack_in_bounds.0))
+    let p = went_on c.charge-turn.ensures c.if-turn.true in simp length-set (omega (arith, p.depth, c.requires.stack_in_bounds))
 
 pub returns-then-turn : goal.returns-then-turn
 returns-then-turn c =
@@ -54,10 +54,10 @@ returns-then-turn c =
           record {
             stack =
                 bears_thrown c.args.stack.now _ _ (bits_ref _ _ h.hp)
-                (omega (arith, c.requires.stack_in_bounds.0, a));
+                (omega (arith, c.requires.stack_in_bounds, a));
             heap =
                 bears_exn c.args.heap.now hs _ _ _ _ h.heap h.hp refl
-                (omega (arith, c.requires.stack_in_bounds.1.0, b));
+                (omega (arith, c.requires.heap_in_bounds, b));
             wires = refl;
             order = refl;
           });

@@ -5,7 +5,13 @@ use Rattle.engine.proofs.regs.Regs.start_matches.Goals as goal
 
 pub rule_at-requires : goal.rule_at-requires
 rule_at-requires c =
-    (c.requires.imaged.0, (c.requires.imaged.1.0, (c.requires.imaged.1.1.0, (c.requires.imaged.1.1.1, c.requires.imaged.0.accepted.some_rule _ c.requires.imaged.1.1.1))))
+    record {
+      imaged = c.requires.imaged;
+      located = c.requires.located;
+      order_fits = c.requires.order_fits;
+      rs_bound = c.requires.rs_bound;
+      k_bound = c.requires.imaged.accepted.some_rule _ c.requires.rs_bound;
+    }
 
 pub returns : goal.returns
 returns c =

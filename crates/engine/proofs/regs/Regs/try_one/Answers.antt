@@ -34,11 +34,11 @@ bounds-heap-p-2 c =
 pub returns : goal.returns
 returns c =
     let p = c.requires.refs.each _ (omega (arith, c.if-sp-self.false)) c.if-w-ne1.false in
-    let o = c.settle.ensures ∙ ap (settled (c.args.self.sp - 1)) c.prim1.ensures in (
-      record {
+    let o = c.settle.ensures ∙ ap (settled (c.args.self.sp - 1)) c.prim1.ensures in record {
+      deals = record {
         each = λ P ws hs wi or h m n.
             one_is h wi or P _ _ (reads_below h 0 _ (omega (arith, c.if-sp-self.false)) refl) (small_below 0 m) _ _ c.if-sp-self.false
             c.if-w-ne1.false p refl refl _ o;
-      },
-      fair_tried _ _ (tame_one _) _ _ _ _ o (omega (arith, c.if-sp-self.false)) (omega (arith, c.if-sp-self.false)),
-    )
+      };
+      fair = fair_tried _ _ (tame_one _) _ _ _ _ o (omega (arith, c.if-sp-self.false)) (omega (arith, c.if-sp-self.false));
+    }

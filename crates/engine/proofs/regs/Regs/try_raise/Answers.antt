@@ -25,13 +25,14 @@ returns-then-not-is_value c =
     )
 
 pub returns : goal.returns
-returns c = (
-  λ he.
-      record {
-        each = λ P ws hs wi or h m n.
-            raise_is h wi or P _ _ c.if-sp-self.false
-            (sym (c.is_value.ensures _ (reads_below h 0 _ (omega (arith, c.if-sp-self.false)) refl) (small_below 0 m))
-            ∙ not-false _ c.if-not-is_value.false-raw) (reads_below h 0 _ (omega (arith, c.if-sp-self.false)) refl) (small_below 0 m);
-      },
-  fair_raises _ _ refl c.requires.b_bound,
-)
+returns c =
+    record {
+      by_index = λ he.
+          record {
+            each = λ P ws hs wi or h m n.
+                raise_is h wi or P _ _ c.if-sp-self.false
+                (sym (c.is_value.ensures _ (reads_below h 0 _ (omega (arith, c.if-sp-self.false)) refl) (small_below 0 m))
+                ∙ not-false _ c.if-not-is_value.false-raw) (reads_below h 0 _ (omega (arith, c.if-sp-self.false)) refl) (small_below 0 m);
+          };
+      fair = fair_raises _ _ refl c.requires.b_bound;
+    }

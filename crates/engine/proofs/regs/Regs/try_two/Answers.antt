@@ -56,12 +56,12 @@ pub returns : goal.returns
 returns c =
     let p = c.requires.refs.each _ (omega (arith, c.if-sp-self-lt2.false)) c.if-w-ne1.false in
     let q = c.requires.refs.each _ (omega (arith, c.if-sp-self-lt2.false)) c.if-v-ne1.false in
-    let o = c.settle.ensures ∙ ap (settled (c.args.self.sp - 2)) c.prim2.ensures in (
-      record {
+    let o = c.settle.ensures ∙ ap (settled (c.args.self.sp - 2)) c.prim2.ensures in record {
+      deals = record {
         each = λ P ws hs wi or h m n.
             two_is h wi or P _ _ _ (reads_below h 0 _ (omega (arith, c.if-sp-self-lt2.false)) refl)
             (reads_below h 1 _ (omega (arith, c.if-sp-self-lt2.false)) refl) (small_below 0 m) (small_below 1 m) c.if-sp-self-lt2.false _ _ _ _
             c.if-w-ne1.false c.if-v-ne1.false p q refl refl refl refl _ o;
-      },
-      fair_tried _ _ (tame_two _) _ _ _ _ o (omega (arith, c.if-sp-self-lt2.false)) (omega (arith, c.if-sp-self-lt2.false)),
-    )
+      };
+      fair = fair_tried _ _ (tame_two _) _ _ _ _ o (omega (arith, c.if-sp-self-lt2.false)) (omega (arith, c.if-sp-self-lt2.false));
+    }

@@ -21,12 +21,12 @@ returns-then-w-ne1 c =
 
 pub bounds-heap-at : goal.bounds-heap-at
 bounds-heap-at c =
-    let p = c.requires.stack_in_bounds.1.1.0.each _ (omega (arith, c.if-sp-self.false)) c.if-w-ne1.false in
-    omega (arith, c.requires.stack_in_bounds.1.0, c.requires.fit.hp)
+    let p = c.requires.refs.each _ (omega (arith, c.if-sp-self.false)) c.if-w-ne1.false in
+    omega (arith, c.requires.heap_in_bounds, c.requires.fit.hp)
 
 pub returns-then-not-is_block : goal.returns-then-not-is_block
 returns-then-not-is_block c =
-    let p = c.requires.stack_in_bounds.1.1.0.each _ (omega (arith, c.if-sp-self.false)) c.if-w-ne1.false in
+    let p = c.requires.refs.each _ (omega (arith, c.if-sp-self.false)) c.if-w-ne1.false in
     λ wi or.
     record {
       each = λ ws hs h m n.
@@ -37,36 +37,36 @@ returns-then-not-is_block c =
 
 pub bounds-heap-at-2 : goal.bounds-heap-at-2
 bounds-heap-at-2 c =
-    let p = c.requires.stack_in_bounds.1.1.0.each _ (omega (arith, c.if-sp-self.false)) c.if-w-ne1.false in
-    omega (arith, c.requires.stack_in_bounds.1.0, c.requires.fit.hp)
+    let p = c.requires.refs.each _ (omega (arith, c.if-sp-self.false)) c.if-w-ne1.false in
+    omega (arith, c.requires.heap_in_bounds, c.requires.fit.hp)
 
 pub overflow_cast-n : goal.overflow_cast-n
 overflow_cast-n c =
     let p =
-    c.requires.stack_in_bounds.1.1.1.each _ (omega (arith, c.if-sp-self.false)) c.if-w-ne1.false
+    c.requires.blocks.each _ (omega (arith, c.if-sp-self.false)) c.if-w-ne1.false
     (block_least _ (sym c.is_block.ensures ∙ not-false _ c.if-not-is_block.false-raw)) in
     omega (arith, c.requires.fit.hp, c.requires.fit.heap_cap)
 
 pub overflow_add-next : goal.overflow_add-next
 overflow_add-next c =
     let p =
-    c.requires.stack_in_bounds.1.1.1.each _ (omega (arith, c.if-sp-self.false)) c.if-w-ne1.false
+    c.requires.blocks.each _ (omega (arith, c.if-sp-self.false)) c.if-w-ne1.false
     (block_least _ (sym c.is_block.ensures ∙ not-false _ c.if-not-is_block.false-raw)) in
     omega (arith, c.requires.fit.hp, c.requires.fit.heap_cap, c.requires.fit.sp, c.requires.fit.stack_cap)
 
 pub put_words-requires : goal.put_words-requires
 put_words-requires c =
     let p =
-    c.requires.stack_in_bounds.1.1.1.each _ (omega (arith, c.if-sp-self.false)) c.if-w-ne1.false
+    c.requires.blocks.each _ (omega (arith, c.if-sp-self.false)) c.if-w-ne1.false
     (block_least _ (sym c.is_block.ensures ∙ not-false _ c.if-not-is_block.false-raw)) in
     let d = went_on c.charge_depth-turn.ensures c.if-turn.true in
-    (omega (arith, c.requires.stack_in_bounds.1.0, c.requires.fit.hp), omega (arith, d.depth, c.requires.stack_in_bounds.0))
+    (omega (arith, c.requires.heap_in_bounds, c.requires.fit.hp), omega (arith, d.depth, c.requires.stack_in_bounds))
 
 pub returns-then-turn : goal.returns-then-turn
 returns-then-turn c =
-    let p = c.requires.stack_in_bounds.1.1.0.each _ (omega (arith, c.if-sp-self.false)) c.if-w-ne1.false in
+    let p = c.requires.refs.each _ (omega (arith, c.if-sp-self.false)) c.if-w-ne1.false in
     let q =
-    c.requires.stack_in_bounds.1.1.1.each _ (omega (arith, c.if-sp-self.false)) c.if-w-ne1.false
+    c.requires.blocks.each _ (omega (arith, c.if-sp-self.false)) c.if-w-ne1.false
     (block_least _ (sym c.is_block.ensures ∙ not-false _ c.if-not-is_block.false-raw)) in
     λ wi or.
     record {
@@ -80,7 +80,7 @@ returns-then-turn c =
             stack =
                 bears_unpacked c.requires.fit h wi or _ (reads_below h 0 _ (omega (arith, c.if-sp-self.false)) refl)
                 (small_below 0 m) c.if-sp-self.false c.if-w-ne1.false _ refl p _ refl q c.put_words.ensures
-                (omega (arith, c.requires.stack_in_bounds.0, a));
+                (omega (arith, c.requires.stack_in_bounds, a));
             heap = h.heap;
             wires = refl;
             order = refl;
@@ -89,9 +89,9 @@ returns-then-turn c =
 
 pub returns-else-turn : goal.returns-else-turn
 returns-else-turn c =
-    let p = c.requires.stack_in_bounds.1.1.0.each _ (omega (arith, c.if-sp-self.false)) c.if-w-ne1.false in
+    let p = c.requires.refs.each _ (omega (arith, c.if-sp-self.false)) c.if-w-ne1.false in
     let q =
-    c.requires.stack_in_bounds.1.1.1.each _ (omega (arith, c.if-sp-self.false)) c.if-w-ne1.false
+    c.requires.blocks.each _ (omega (arith, c.if-sp-self.false)) c.if-w-ne1.false
     (block_least _ (sym c.is_block.ensures ∙ not-false _ c.if-not-is_block.false-raw)) in
     λ wi or.
     record {

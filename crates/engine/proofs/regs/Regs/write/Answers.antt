@@ -13,50 +13,50 @@ returns-then-sp-self c =
 pub room_for-room-requires : goal.room_for-room-requires
 room_for-room-requires c =
     record {
-      wire_fits = c.requires.stack_in_bounds.1.1;
-      offered = top_offered c.requires.stack_in_bounds.1.0 c.if-sp-self.false (c.shared_slice_known-3-1.given _).fits;
+      wire_fits = c.requires.wire_fits;
+      offered = top_offered c.requires.top_held c.if-sp-self.false (c.shared_slice_known-3-1.given _).fits;
     }
 
 pub returns-then-room-ne0 : goal.returns-then-room-ne0
 returns-then-room-ne0 c =
     λ P or p. record {
       each = λ ws hs h m n.
-          let k = own_offered h n m c.requires.stack_in_bounds.1.0 c.if-sp-self.false in
+          let k = own_offered h n m c.requires.top_held c.if-sp-self.false in
           still (c.room_for-room.ensures.wires_after k ∙ put_none _ _ (faulty _ _ _ (c.room_for-room.ensures.value k) c.if-room-ne0.true))
           (write_stops c.requires.fit h _ or P _ c.if-sp-self.false _ p (c.room_for-room.ensures.value k) _ c.if-room-ne0.true c.halt-then-room-ne0.ensures);
     }
 
 pub overflow_cast-wires : goal.overflow_cast-wires
 overflow_cast-wires c =
-    let y = roomy (c.room_for-room.ensures.value (top_offered c.requires.stack_in_bounds.1.0 c.if-sp-self.false (c.shared_slice_known-3-1.given _).fits)) c.if-room-ne0-2.true in
+    let y = roomy (c.room_for-room.ensures.value (top_offered c.requires.top_held c.if-sp-self.false (c.shared_slice_known-3-1.given _).fits)) c.if-room-ne0-2.true in
     omega (arith, y.few, y.long)
 
 pub overflow_mul-wires : goal.overflow_mul-wires
-overflow_mul-wires c = omega (arith, wire_inside c.requires.stack_in_bounds.1.1, c.well_formed)
+overflow_mul-wires c = omega (arith, wire_inside c.requires.wire_fits, c.well_formed)
 
 pub offset_bounds-wires-o : goal.offset_bounds-wires-o
-offset_bounds-wires-o c = omega (arith, wire_inside c.requires.stack_in_bounds.1.1, c.well_formed)
+offset_bounds-wires-o c = omega (arith, wire_inside c.requires.wire_fits, c.well_formed)
 
 pub bounds-wires-o : goal.bounds-wires-o
-bounds-wires-o c = omega (arith, wire_inside c.requires.stack_in_bounds.1.1, c.room_for-room.auto.1.1.1.0)
+bounds-wires-o c = omega (arith, wire_inside c.requires.wire_fits, c.room_for-room.auto.1.1.1.0)
 
 pub overflow_mul-o : goal.overflow_mul-o
-overflow_mul-o c = omega (arith, wire_inside c.requires.stack_in_bounds.1.1, c.well_formed)
+overflow_mul-o c = omega (arith, wire_inside c.requires.wire_fits, c.well_formed)
 
 pub clear_wire-requires : goal.clear_wire-requires
-clear_wire-requires c = omega (arith, wire_inside c.requires.stack_in_bounds.1.1, c.room_for-room.auto.1.1.1.0)
+clear_wire-requires c = omega (arith, wire_inside c.requires.wire_fits, c.room_for-room.auto.1.1.1.0)
 
 pub returns-then-room-ne0-2 : goal.returns-then-room-ne0-2
 returns-then-room-ne0-2 c =
     λ P or p. record {
       each = λ ws hs h m n.
-          let k = own_offered h n m c.requires.stack_in_bounds.1.0 c.if-sp-self.false in
+          let k = own_offered h n m c.requires.top_held c.if-sp-self.false in
           let y = roomy (c.room_for-room.ensures.value k) c.if-room-ne0-2.true in
           settle_yes (write_leads c.requires.fit h _ or P _ c.if-sp-self.false _ p (c.room_for-room.ensures.value k) _ c.if-room-ne0.false) _ _ c.charge_time-turn.ensures c.if-turn.true
           (λ a b. record {
             stack = bears_without _ _ _ h.stack;
             heap = h.heap;
-            wires = room_taken c.requires.stack_in_bounds.1.1 y c.if-room-ne0-2.true (c.room_for-room.ensures.wires_after k);
+            wires = room_taken c.requires.wire_fits y c.if-room-ne0-2.true (c.room_for-room.ensures.wires_after k);
             order = refl;
           });
     }
@@ -65,7 +65,7 @@ pub returns-else-room-ne0-2 : goal.returns-else-room-ne0-2
 returns-else-room-ne0-2 c =
     λ P or p. record {
       each = λ ws hs h m n.
-          let k = own_offered h n m c.requires.stack_in_bounds.1.0 c.if-sp-self.false in
+          let k = own_offered h n m c.requires.top_held c.if-sp-self.false in
           settle_yes (write_leads c.requires.fit h _ or P _ c.if-sp-self.false _ p (c.room_for-room.ensures.value k) _ c.if-room-ne0.false) _ _ c.charge_time-turn.ensures c.if-turn.true
           (λ a b. record {
             stack = bears_without _ _ _ h.stack;
@@ -79,9 +79,9 @@ pub returns-then-room-ne0-3 : goal.returns-then-room-ne0-3
 returns-then-room-ne0-3 c =
     λ P or p. record {
       each = λ ws hs h m n.
-          let k = own_offered h n m c.requires.stack_in_bounds.1.0 c.if-sp-self.false in
+          let k = own_offered h n m c.requires.top_held c.if-sp-self.false in
           let y = roomy (c.room_for-room.ensures.value k) c.if-room-ne0-3.true in
-          still (c.clear_wire.ensures ∙ room_back c.requires.stack_in_bounds.1.1 y c.if-room-ne0-3.true (c.room_for-room.ensures.wires_after k))
+          still (c.clear_wire.ensures ∙ room_back c.requires.wire_fits y c.if-room-ne0-3.true (c.room_for-room.ensures.wires_after k))
           (settle_no (write_leads c.requires.fit h _ or P _ c.if-sp-self.false _ p (c.room_for-room.ensures.value k) _ c.if-room-ne0.false) _ c.charge_time-turn.ensures c.if-turn.false);
     }
 
@@ -89,7 +89,7 @@ pub returns-else-room-ne0-3 : goal.returns-else-room-ne0-3
 returns-else-room-ne0-3 c =
     λ P or p. record {
       each = λ ws hs h m n.
-          let k = own_offered h n m c.requires.stack_in_bounds.1.0 c.if-sp-self.false in
+          let k = own_offered h n m c.requires.top_held c.if-sp-self.false in
           still (c.room_for-room.ensures.wires_after k ∙ put_none _ _ c.if-room-ne0-3.false)
           (settle_no (write_leads c.requires.fit h _ or P _ c.if-sp-self.false _ p (c.room_for-room.ensures.value k) _ c.if-room-ne0.false) _ c.charge_time-turn.ensures c.if-turn.false);
     }
