@@ -51,4 +51,4 @@ sum_up-requires c =
 
 pub returns : goal.returns
 returns c =
-    let t : c.args.t < 4294967296 = omega (arith, c.well_formed) in let o = ran_over _ _ _ _ _ _ _ _ _ c.requires (bytes_of c.shared_slice_known-1.given) (words_of c.slice_known-3-1.given) t _ c.begin-first.ensures c.entry_of.ensures.0 refl refl c.layout-table.ensures c.fix-fixed.ensures c.run-turn.ensures in answered _ _ _ _ _ _ _ _ _ c.requires (bytes_of c.shared_slice_known-1.given) (words_of c.slice_known-3-1.given) t _ _ _ _ _ _ o c.run-turn.auto.1.1.1.1.1.1.1.1.0 c.run-turn.auto.1.1.1.1.1.1.1.1.1.0 c.wipe.ensures c.wipe-2.ensures c.sum_up.ensures
+    let t : c.args.t < 4294967296 = omega (arith, c.well_formed) in let o = ran_over _ _ _ _ _ _ _ _ _ c.requires (bytes_of c.shared_slice_known-1.given) (words_of c.slice_known-3-1.given) t _ c.begin-first.ensures c.entry_of.ensures.0 refl refl c.layout-table.ensures c.fix-fixed.ensures c.run-turn.ensures in answered _ _ _ _ _ _ _ _ _ c.requires (bytes_of c.shared_slice_known-1.given) (words_of c.slice_known-3-1.given) t _ _ _ _ _ _ o c.run-turn.auto.stack c.run-turn.auto.heap c.wipe.ensures c.wipe-2.ensures c.sum_up.ensures

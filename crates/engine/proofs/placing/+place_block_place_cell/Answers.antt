@@ -7,22 +7,6 @@ use Rattle.engine.proofs.Copying.{Filling, cell_inside, cell_inside_2, cell_none
 use Prim.Native.Nat.{ℕ, ◌<◌}
 use Rattle.engine.proofs.placing.+place_block_place_cell.Goals as goal
 
-abbrev place-block-at : ℕ → In 2 place-block-kinds.ps
-place-block-at t =
-    and 2 place-block-kinds.ps (is 2 place-block-kinds.ps μ-place-block t) place-block.Pre
-
-abbrev place-block-below : ℕ → In 2 place-block-kinds.ps
-place-block-below t =
-    and 2 place-block-kinds.ps (falls 2 place-block-kinds.ps ◌<◌ μ-place-block t) place-block.Pre
-
-abbrev place-cell-at : ℕ → In 2 place-cell-kinds.ps
-place-cell-at t =
-    and 2 place-cell-kinds.ps (is 2 place-cell-kinds.ps μ-place-cell t) place-cell.Pre
-
-abbrev place-cell-below : ℕ → In 2 place-cell-kinds.ps
-place-cell-below t =
-    and 2 place-cell-kinds.ps (falls 2 place-cell-kinds.ps ◌<◌ μ-place-cell t) place-cell.Pre
-
 pub place_block-overflow_add-n : goal.place_block-overflow_add-n
 place_block-overflow_add-n t c =
     let b = c.requires in
@@ -71,7 +55,7 @@ place_block-overflow_add-heap t c =
     let inv = c.loop-k.invariant in
     let many = block_many b in
     let more = c.loop-k-test.true in
-    let same = c.place_cell-cell.auto.1.1.0 in
+    let same = c.place_cell-cell.auto.heap in
     omega (arith, b.fits, b.inside, inv.0, same, more, c.well_formed)
 
 pub place_block-offset_bounds-heap-base : goal.place_block-offset_bounds-heap-base
@@ -80,7 +64,7 @@ place_block-offset_bounds-heap-base t c =
     let inv = c.loop-k.invariant in
     let many = block_many b in
     let more = c.loop-k-test.true in
-    let same = c.place_cell-cell.auto.1.1.0 in
+    let same = c.place_cell-cell.auto.heap in
     omega (arith, b.fits, b.inside, inv.0, same, more, c.well_formed)
 
 pub place_block-bounds-heap-base : goal.place_block-bounds-heap-base
@@ -89,7 +73,7 @@ place_block-bounds-heap-base t c =
     let inv = c.loop-k.invariant in
     let many = block_many b in
     let more = c.loop-k-test.true in
-    let same = c.place_cell-cell.auto.1.1.0 in
+    let same = c.place_cell-cell.auto.heap in
     omega (arith, b.fits, b.inside, inv.0, same, more, c.well_formed)
 
 pub place_block-overflow_add-k : goal.place_block-overflow_add-k
@@ -98,7 +82,7 @@ place_block-overflow_add-k t c =
     let inv = c.loop-k.invariant in
     let many = block_many b in
     let more = c.loop-k-test.true in
-    let same = c.place_cell-cell.auto.1.1.0 in
+    let same = c.place_cell-cell.auto.heap in
     omega (arith, b.fits, b.low, more)
 
 pub place_block-loop-k-smaller : goal.place_block-loop-k-smaller
@@ -107,7 +91,7 @@ place_block-loop-k-smaller t c =
     let inv = c.loop-k.invariant in
     let many = block_many b in
     let more = c.loop-k-test.true in
-    let same = c.place_cell-cell.auto.1.1.0 in
+    let same = c.place_cell-cell.auto.heap in
     omega (arith, more)
 
 pub place_block-loop-k-preserved : goal.place_block-loop-k-preserved
@@ -116,9 +100,9 @@ place_block-loop-k-preserved t c =
     let inv = c.loop-k.invariant in
     let many = block_many b in
     let more = c.loop-k-test.true in
-    let same = c.place_cell-cell.auto.1.1.0 in
+    let same = c.place_cell-cell.auto.heap in
     let cell = fill_cell (inv.3 b) (length c.loop-k.heap) (omega (arith, b.fits)) (omega (arith, b.low)) (omega (arith, b.inside, inv.0)) (omega (arith, more)) in
-    let next = c.place_cell-cell.ensures cell .next_is in (
+    let next = (c.place_cell-cell.ensures cell).next_is in (
       simp length-set (same ∙ inv.0),
       omega (arith, more),
       omega (arith, inv.2),
@@ -143,7 +127,7 @@ place_block-overflow_add-top t c =
     let b = c.requires in
     let inv = c.loop-k.invariant in
     let many = block_many b in
-    let same = c.put_pair.auto.1.1.0 in
+    let same = c.put_pair.auto.to in
     omega (arith, fill_top (inv.3 b), b.fits, b.low)
 
 pub place_block-move_down-requires : goal.place_block-move_down-requires
@@ -151,7 +135,7 @@ place_block-move_down-requires t c =
     let b = c.requires in
     let inv = c.loop-k.invariant in
     let many = block_many b in
-    let same = c.put_pair.auto.1.1.0 in
+    let same = c.put_pair.auto.to in
     record {
       to_le_from = omega (arith, fill_top (inv.3 b), b.fits);
       n_in_bounds = omega (arith, b.fits, b.inside, inv.0, same);
@@ -183,7 +167,7 @@ place_block-shape_of-heap t c =
     let b = c.requires in
     let inv = c.loop-k.invariant in
     let many = block_many b in
-    c.move_down.auto.0 ∙ c.put_pair.auto.1.1.0 ∙ inv.0
+    c.move_down.auto.heap ∙ c.put_pair.auto.to ∙ inv.0
 
 pub place_block-returns : goal.place_block-returns
 place_block-returns t c =
@@ -242,7 +226,7 @@ place_cell-overflow_add-result-then-h-lt262144-3 t c =
     omega (arith, cell_two k c.if-h-lt262144.true, k.low)
 
 pub place_cell-shape_of-heap-then-h-lt262144 : goal.place_cell-shape_of-heap-then-h-lt262144
-place_cell-shape_of-heap-then-h-lt262144 t c = c.put_pair.auto.1.1.0
+place_cell-shape_of-heap-then-h-lt262144 t c = c.put_pair.auto.to
 
 pub place_cell-returns-then-h-lt262144 : goal.place_cell-returns-then-h-lt262144
 place_cell-returns-then-h-lt262144 t c = λ k. rw c.put_pair.ensures (cell_atom k c.if-h-lt262144.true _ refl)
@@ -253,7 +237,13 @@ place_cell-place_block-requires t c =
     (omega (arith, c.decreases, cell_inside k), cell_block k c.if-h-eq458752.false c.if-h-lt262144.false)
 
 pub place_cell-shape_of-heap : goal.place_cell-shape_of-heap
-place_cell-shape_of-heap t c = c.place_block.auto.1.1.0
+place_cell-shape_of-heap t c = c.place_block.auto.heap
 
 pub place_cell-returns : goal.place_cell-returns
 place_cell-returns t c = λ k. cell_placed k c.if-h-eq458752.false c.if-h-lt262144.false c.place_block.ensures
+
+pub place_block-overflow_add-result-3 : goal.place_block-overflow_add-result-3
+place_block-overflow_add-result-3 t c =
+    let b = c.requires in
+    let many = block_many b in
+    omega (arith, fill_top (c.loop-k.invariant.3 b), b.fits, b.low)

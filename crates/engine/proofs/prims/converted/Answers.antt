@@ -11,8 +11,8 @@ returns-then-h-ne196608 c = rw (c.wrong.ensures, ne_eqb _ _ c.if-h-ne196608.true
 
 pub returns-in-Whole : goal.returns-in-Whole
 unfolding cutting pick cut
-returns-in-Whole c = rw (c.value.ensures, eq-eqb _ _ c.if-h-ne196608.false, c.c-1.given.1)
+returns-in-Whole c = rw (c.value.ensures, eq-eqb _ _ c.if-h-ne196608.false, c.in-Whole.is)
 
 pub returns-in-Out : goal.returns-in-Out
 unfolding cutting pick cut
-returns-in-Out c = rw (c.raising.ensures, eq-eqb _ _ c.if-h-ne196608.false, c.enum_told-1.given.1)
+returns-in-Out c = rw (c.raising.ensures, eq-eqb _ _ c.if-h-ne196608.false, c.in-Out.is)

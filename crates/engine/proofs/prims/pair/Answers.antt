@@ -136,9 +136,9 @@ pub returns-in-0 : goal.returns-in-0
 unfolding prim2 two_operands
 returns-in-0 c =
     arm prim2 c.args.a c.args.h c.args.x c.args.y 1 _ _
-    (first_two c.args.a (omega (arith, c.if-a-lt2.true))) c.keep-in-0.ensures c.truth-in-0.ensures refl
+    (first_two c.args.a (omega arith)) c.keep-in-0.ensures c.truth-in-0.ensures refl
 
 pub returns-in_default : goal.returns-in_default
 returns-in_default c =
-    arm_none prim2 _ _ _ _ (beyond_two c.args.a (avoids c.args.a 2 21 c.if-a-lt2.false c.in_default-1.rest))
+    arm_none prim2 _ _ _ _ (beyond_two c.args.a (omega arith))
     c.keep-in_default.ensures

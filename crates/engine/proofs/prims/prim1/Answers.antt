@@ -18,9 +18,9 @@ pub returns-in-0 : goal.returns-in-0
 unfolding prim1 one_operand is_true
 returns-in-0 c =
     arm prim1 c.args.a c.args.h c.args.x 0 1 _ _
-    (first_one c.args.a (omega (arith, c.if-a-lt2.true))) c.keep-in-0.ensures c.truth.ensures refl
+    (first_one c.args.a (omega arith)) c.keep-in-0.ensures c.truth.ensures refl
 
 pub returns-in_default : goal.returns-in_default
 returns-in_default c =
-    arm_none prim1 _ _ _ _ (beyond_one c.args.a (avoids c.args.a 2 2 c.if-a-lt2.false c.in_default-1.rest))
+    arm_none prim1 _ _ _ _ (beyond_one c.args.a (omega arith))
     c.keep-in_default.ensures

@@ -8,26 +8,6 @@ use Rattle.engine.specs.Copies.{Readable}
 use Rattle.engine.proofs.Reading.{reads_ref, reads_inside, reads_fields, reads_first, fields_inside, spread_least, none_over, none_spread, two_over, atom_spread, Partly, partly_none, partly_all, partly_over, partly_more}
 use Rattle.engine.proofs.spreading.+spread_block_spread_cell.Goals as goal
 
-abbrev spread-block-at : ℕ → In 2 spread-block-kinds.ps
-spread-block-at t =
-    and 2 spread-block-kinds.ps (is 2 spread-block-kinds.ps μ-spread-block t) spread-block.Pre
-
-abbrev spread-block-below : ℕ → In 2 spread-block-kinds.ps
-spread-block-below t =
-    and
-    2
-    spread-block-kinds.ps
-    (falls 2 spread-block-kinds.ps ◌<◌ μ-spread-block t)
-    spread-block.Pre
-
-abbrev spread-cell-at : ℕ → In 2 spread-cell-kinds.ps
-spread-cell-at t =
-    and 2 spread-cell-kinds.ps (is 2 spread-cell-kinds.ps μ-spread-cell t) spread-cell.Pre
-
-abbrev spread-cell-below : ℕ → In 2 spread-cell-kinds.ps
-spread-cell-below t =
-    and 2 spread-cell-kinds.ps (falls 2 spread-cell-kinds.ps ◌<◌ μ-spread-cell t) spread-cell.Pre
-
 pub spread_block-overflow_sub-p : goal.spread_block-overflow_sub-p
 spread_block-overflow_sub-p t c = omega (arith, (reads_ref c.requires.readable c.requires.fact).least)
 
@@ -76,18 +56,19 @@ spread_block-bounds-heap-p-in-loop-i t c =
     omega (arith, fields_inside (reads_fields c.requires.readable c.requires.fact c.requires.tuple_header_bound), c.loop-i-test.true, c.well_formed)
 
 pub spread_block-spread_cell-out-requires : goal.spread_block-spread_cell-out-requires
-spread_block-spread_cell-out-requires t c =
-    record {
-      readable = omega (arith, c.decreases, c.requires.at_bound, c.loop-i.invariant.0);
-      at_le_end = reads_first (c.loop-i.invariant.3 c.requires.readable c.args.wires.now c.put_pair.ensures).rest (ne_of_gt (omega (arith, c.loop-i-test.true)));
-      end_in_bounds = (c.loop-i.invariant.1, omega (arith, c.requires.end_in_bounds, c.loop-i.invariant.2, c.put_pair.auto.1.1.0));
-    }
+spread_block-spread_cell-out-requires t c = (
+  omega (arith, c.decreases, c.requires.at_bound, c.loop-i.invariant.0),
+  (
+    reads_first (c.loop-i.invariant.3 c.requires.readable c.args.wires.now c.put_pair.ensures).rest (ne_of_gt (omega (arith, c.loop-i-test.true))),
+    (c.loop-i.invariant.1, omega (arith, c.requires.end_in_bounds, c.loop-i.invariant.2, c.put_pair.auto.to)),
+  ),
+)
 
 pub spread_block-overflow_add-result : goal.spread_block-overflow_add-result
 spread_block-overflow_add-result t c = omega (arith, c.requires.end_in_bounds, c.well_formed)
 
 pub spread_block-shape_of-wires-then-end-out : goal.spread_block-shape_of-wires-then-end-out
-spread_block-shape_of-wires-then-end-out t c = c.spread_cell-out.auto.1.1.0 ∙ c.loop-i.invariant.2 ∙ c.put_pair.auto.1.1.0
+spread_block-shape_of-wires-then-end-out t c = c.spread_cell-out.auto.wires ∙ c.loop-i.invariant.2 ∙ c.put_pair.auto.to
 
 pub spread_block-returns-then-end-out : goal.spread_block-returns-then-end-out
 spread_block-returns-then-end-out t c =
@@ -105,12 +86,12 @@ spread_block-loop-i-preserved t c =
     let first = reads_first (c.loop-i.invariant.3 c.requires.readable c.args.wires.now c.put_pair.ensures).rest (ne_of_gt (omega (arith, c.loop-i-test.true))) in (
       omega (arith, spread_least c.loop-i.invariant.1 (c.spread_cell-out.ensures first), c.loop-i.invariant.0),
       c.if-end-out.false,
-      c.spread_cell-out.auto.1.1.0 ∙ c.loop-i.invariant.2,
+      c.spread_cell-out.auto.wires ∙ c.loop-i.invariant.2,
       λ k v e. partly_more (c.loop-i.invariant.3 k v e) (ne_of_gt (omega (arith, c.loop-i-test.true))) c.spread_cell-out.ensures (omega arith) (omega arith) c.if-end-out.false,
     )
 
 pub spread_block-shape_of-wires : goal.spread_block-shape_of-wires
-spread_block-shape_of-wires t c = c.loop-i.invariant.2 ∙ c.put_pair.auto.1.1.0
+spread_block-shape_of-wires t c = c.loop-i.invariant.2 ∙ c.put_pair.auto.to
 
 pub spread_block-returns : goal.spread_block-returns
 spread_block-returns t c =
@@ -170,7 +151,7 @@ pub spread_cell-overflow_add-result-then-heap-p-lt262144 : goal.spread_cell-over
 spread_cell-overflow_add-result-then-heap-p-lt262144 t c = omega (arith, c.if-end-at-2.false, c.requires.end_in_bounds, c.well_formed)
 
 pub spread_cell-shape_of-wires-then-heap-p-lt262144 : goal.spread_cell-shape_of-wires-then-heap-p-lt262144
-spread_cell-shape_of-wires-then-heap-p-lt262144 t c = c.put_pair.auto.1.1.0
+spread_cell-shape_of-wires-then-heap-p-lt262144 t c = c.put_pair.auto.to
 
 pub spread_cell-returns-then-heap-p-lt262144 : goal.spread_cell-returns-then-heap-p-lt262144
 spread_cell-returns-then-heap-p-lt262144 t c =
@@ -178,16 +159,10 @@ spread_cell-returns-then-heap-p-lt262144 t c =
 
 pub spread_cell-spread_block-requires : goal.spread_cell-spread_block-requires
 spread_cell-spread_block-requires t c =
-    record {
-      readable = omega (arith, c.decreases);
-      fact = c.requires.readable;
-      tuple_header_bound = c.if-w-eq536870912.false;
-      at_bound = c.if-heap-p-lt262144.false;
-      end_in_bounds = (c.if-end-at-2.false, c.requires.end_in_bounds);
-    }
+    (omega (arith, c.decreases), (c.requires.readable, (c.if-w-eq536870912.false, (c.if-heap-p-lt262144.false, (c.if-end-at-2.false, c.requires.end_in_bounds)))))
 
 pub spread_cell-shape_of-wires : goal.spread_cell-shape_of-wires
-spread_cell-shape_of-wires t c = c.spread_block.auto.1.1.0
+spread_cell-shape_of-wires t c = c.spread_block.auto.wires
 
 pub spread_cell-returns : goal.spread_cell-returns
 spread_cell-returns t c = c.spread_block.ensures

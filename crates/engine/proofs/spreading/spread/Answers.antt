@@ -25,7 +25,7 @@ put_pair-requires c =
     }
 
 pub shape_of-wires-then-heap-p-lt262144 : goal.shape_of-wires-then-heap-p-lt262144
-shape_of-wires-then-heap-p-lt262144 c = c.put_pair.auto.1.1.0
+shape_of-wires-then-heap-p-lt262144 c = c.put_pair.auto.to
 
 pub returns-then-heap-p-lt262144 : goal.returns-then-heap-p-lt262144
 returns-then-heap-p-lt262144 c =
@@ -54,7 +54,7 @@ pub overflow_sub-result : goal.overflow_sub-result
 overflow_sub-result c = spread_least (omega arith) (c.spread_block.ensures c.requires.readable)
 
 pub shape_of-wires : goal.shape_of-wires
-shape_of-wires c = c.spread_block.auto.1.1.0
+shape_of-wires c = c.spread_block.auto.wires
 
 pub returns : goal.returns
 returns c = λ k. spread_from (omega arith) (c.spread_block.ensures k)

@@ -5,6 +5,7 @@ use native.Mathlib.Nat.{not-suc-le-zero}
 use borrow.Author.Count.{below_more}
 use Rattle.engine.specs.Copies.{Stuck}
 use Rattle.engine.proofs.wiring.first_stuck.Goals as goal
+use Rattle.engine.proofs.wiring.first_stuck.Goals.{then-stack-sp-ne536870912+else-wires-inputs-ne0, else-stack-sp-ne536870912}
 
 pub loop-i-init : goal.loop-i-init
 loop-i-init c = (omega arith, λ k h. absurd (not-suc-le-zero h))
@@ -47,8 +48,13 @@ pub loop-i-smaller : goal.loop-i-smaller
 loop-i-smaller c = omega (arith, c.loop-i-test.true)
 
 pub loop-i-preserved : goal.loop-i-preserved
-loop-i-preserved c =
-    (omega (arith, c.loop-i-test.true), below_more _ _ c.loop-i.invariant.1 (λ t. ⊎_elim (λ w. t.full w.2.left) (λ w. t.some w.left) c.if-stack-sp-ne536870912.branch))
+loop-i-preserved c = (
+  omega (arith, c.loop-i-test.true),
+  below_more _ _ c.loop-i.invariant.1 (λ t. elim c.if-stack-sp-ne536870912.branch [
+    | then-stack-sp-ne536870912+else-wires-inputs-ne0 w ↦ t.full w.if-wires-inputs-ne0.false
+    | else-stack-sp-ne536870912 w ↦ t.some w.if-stack-sp-ne536870912.false
+  ]),
+)
 
 pub returns : goal.returns
 returns c =

@@ -39,10 +39,10 @@ spread-n-requires c =
     }
 
 pub clear_wire-requires : goal.clear_wire-requires
-clear_wire-requires c = omega (arith, wire_inside c.requires.wire_fits, c.spread-n.auto.1.1.0)
+clear_wire-requires c = omega (arith, wire_inside c.requires.wire_fits, c.spread-n.auto.wires)
 
 pub shape_of-wires-then-n-gt64 : goal.shape_of-wires-then-n-gt64
-shape_of-wires-then-n-gt64 c = c.clear_wire.auto.0 ∙ c.spread-n.auto.1.1.0
+shape_of-wires-then-n-gt64 c = c.clear_wire.auto.wires ∙ c.spread-n.auto.wires
 
 pub returns-then-n-gt64 : goal.returns-then-n-gt64
 returns-then-n-gt64 c =
@@ -59,7 +59,7 @@ returns-then-n-gt64 c =
     }
 
 pub shape_of-wires : goal.shape_of-wires
-shape_of-wires c = c.spread-n.auto.1.1.0
+shape_of-wires c = c.spread-n.auto.wires
 
 pub returns : goal.returns
 returns c =

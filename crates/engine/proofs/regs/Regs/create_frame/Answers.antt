@@ -19,7 +19,7 @@ blank-requires c =
     let p = went_on c.charge_depth-turn.ensures c.if-turn.true in simp length-set (omega (arith, p.depth, c.requires.stack_in_bounds))
 
 pub shape_of-stack : goal.shape_of-stack
-shape_of-stack c = c.blank.auto.0 ∙ simp length-set
+shape_of-stack c = c.blank.auto.stack ∙ simp length-set
 
 pub returns-then-turn : goal.returns-then-turn
 returns-then-turn c =

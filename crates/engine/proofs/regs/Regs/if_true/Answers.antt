@@ -7,6 +7,7 @@ use Rattle.engine.proofs.Areas.{bears_without}
 use Rattle.engine.proofs.Steering.{if_few, if_no_ref, if_no_bool, if_jumps, if_stays}
 use borrow.Author.Rules.{rules}
 use Rattle.engine.proofs.regs.Regs.if_true.Goals as goal
+use Rattle.engine.proofs.regs.Regs.if_true.Goals.{then-heap-p-eq1, else-heap-p-eq1}
 
 pub returns-then-sp-self-lt1 : goal.returns-then-sp-self-lt1
 returns-then-sp-self-lt1 c =
@@ -30,4 +31,9 @@ bounds-heap-p-2 c =
 
 pub returns : goal.returns
 returns c =
-    λ wi or. record { each = λ ws hs h m n. ⊎_elim (λ w. settled (if_jumps c.requires.fit h wi or m c.if-sp-self-lt1.false _ refl c.requires.refs c.if-w-ne1.false _ _ _ c.if-heap-p-ne65536.false w.0.taken w.1) _ c.charge_time.ensures (λ a b. record { stack = bears_without _ _ _ h.stack; heap = h.heap; wires = refl; order = refl })) (λ w. settled (if_stays c.requires.fit h wi or m c.if-sp-self-lt1.false _ refl c.requires.refs c.if-w-ne1.false _ _ _ c.if-heap-p-ne65536.false w.0.left w.1) _ c.charge_time.ensures (λ a b. record { stack = bears_without _ _ _ h.stack; heap = h.heap; wires = refl; order = refl })) c.if-heap-p-eq1.branch }
+    λ wi or. record {
+      each = λ ws hs h m n. elim c.if-heap-p-eq1.branch [
+        | then-heap-p-eq1 w ↦ settled (if_jumps c.requires.fit h wi or m c.if-sp-self-lt1.false _ refl c.requires.refs c.if-w-ne1.false _ _ _ c.if-heap-p-ne65536.false w.if-heap-p-eq1.true w.to-is) _ c.charge_time.ensures (λ a b. record { stack = bears_without _ _ _ h.stack; heap = h.heap; wires = refl; order = refl })
+        | else-heap-p-eq1 w ↦ settled (if_stays c.requires.fit h wi or m c.if-sp-self-lt1.false _ refl c.requires.refs c.if-w-ne1.false _ _ _ c.if-heap-p-ne65536.false w.if-heap-p-eq1.false w.to-is) _ c.charge_time.ensures (λ a b. record { stack = bears_without _ _ _ h.stack; heap = h.heap; wires = refl; order = refl })
+      ];
+    }

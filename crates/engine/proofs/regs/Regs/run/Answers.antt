@@ -23,22 +23,22 @@ loop-lim-smaller c =
 
 pub loop-lim-preserved : goal.loop-lim-preserved
 loop-lim-preserved c =
-    let i = c.loop-lim.invariant in (λ u. (goes_on u (c.loop-lim.invariant.0 u) _ _ c.step-turn.ensures (unless_not _ c.if-not-turn.false)).going, c.step-turn.auto.1.1.1.1.1.1.1.1.0 ∙ i.1, c.step-turn.auto.1.1.1.1.1.1.1.1.1.0 ∙ i.2, c.step-turn.auto.1.1.1.1.1.1.1.1.1.1.0 ∙ i.3, c.step-turn.auto.1.1.1.1.1.1.1.1.1.1.1.0 ∙ i.4)
+    let i = c.loop-lim.invariant in (λ u. (goes_on u (c.loop-lim.invariant.0 u) _ _ c.step-turn.ensures (unless_not _ c.if-not-turn.false)).going, c.step-turn.auto.stack ∙ i.1, c.step-turn.auto.heap ∙ i.2, c.step-turn.auto.wires ∙ i.3, c.step-turn.auto.order ∙ i.4)
 
 pub halt-requires : goal.halt-requires
 halt-requires c = tt
 
 pub shape_of-stack : goal.shape_of-stack
-shape_of-stack c = c.step-turn.auto.1.1.1.1.1.1.1.1.0 ∙ c.loop-lim.invariant.1
+shape_of-stack c = c.step-turn.auto.stack ∙ c.loop-lim.invariant.1
 
 pub shape_of-heap : goal.shape_of-heap
-shape_of-heap c = c.step-turn.auto.1.1.1.1.1.1.1.1.1.0 ∙ c.loop-lim.invariant.2
+shape_of-heap c = c.step-turn.auto.heap ∙ c.loop-lim.invariant.2
 
 pub shape_of-wires : goal.shape_of-wires
-shape_of-wires c = c.step-turn.auto.1.1.1.1.1.1.1.1.1.1.0 ∙ c.loop-lim.invariant.3
+shape_of-wires c = c.step-turn.auto.wires ∙ c.loop-lim.invariant.3
 
 pub shape_of-order : goal.shape_of-order
-shape_of-order c = c.step-turn.auto.1.1.1.1.1.1.1.1.1.1.1.0 ∙ c.loop-lim.invariant.4
+shape_of-order c = c.step-turn.auto.order ∙ c.loop-lim.invariant.4
 
 pub returns : goal.returns
 returns c =

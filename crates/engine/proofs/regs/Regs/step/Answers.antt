@@ -12,6 +12,7 @@ use Rattle.engine.proofs.Opcodes.{op_4, op_7, op_8, op_9, op_10, op_11, op_12, o
 use Rattle.engine.proofs.Dispatching.{price_most, is_apply, is_schedule, applies, makes_bool, makes_int, makes_float, makes_tuple, makes_con, matches_bool, matches_int, matches_float, matches_tuple, matches_con, matches_exn, consumes_maybe, a_callee, applies_at, consuming_at, input_at, output_at_lem, from_either}
 use borrow.Author.Rules.{rules}
 use Rattle.engine.proofs.regs.Regs.step.Goals as goal
+use Rattle.engine.proofs.regs.Regs.step.Goals.{in_default-via-then-op-lt1, in_default-via-else-op-lt1+else-op-lt22}
 
 pub opcode_at-op-requires : goal.opcode_at-op-requires
 opcode_at-op-requires c =
@@ -594,7 +595,7 @@ apply-requires c =
       refs = c.requires.ready.refs;
       b_bound = c.b_at-in-19.ensures.1;
       cost_bound = price_most _ _ c.requires.ready.prices c.opcode_at-op.ensures.1 c.opcode_at-op.ensures.2;
-      applies = applies_at (program c.args.image.now) _ (c.requires.ready.imaged.accepted.instruction _ c.requires.ready.pc) c.opcode_at-op.ensures.0 c.a_at-in-19.ensures.0 (is_apply _ _ c.if-op-lt1.false c.in_default-1.rest) c.if-op-lt22.true;
+      applies = applies_at (program c.args.image.now) _ (c.requires.ready.imaged.accepted.instruction _ c.requires.ready.pc) c.opcode_at-op.ensures.0 c.a_at-in-19.ensures.0 (omega arith) (omega arith);
       table_value = c.requires.table_value;
     }
 
@@ -643,7 +644,7 @@ returns-in-10 c =
 
 pub returns-in-11 : goal.returns-in-11
 returns-in-11 c =
-    arm (program c.args.image.now) _ _ _ _ _ _ _ c.opcode_at-op.ensures.0 c.a_at-in-11.ensures.0 refl refl (price_is _ _ _ (omega (arith, c.opcode_at-op.ensures.1, c.opcode_at-op.ensures.2, c.requires.ready.prices.long)) refl) (λ s. op_11 _ _ _ _ _ s c.in-11.is) (c.copy-arg2.ensures _ _ _)
+    arm (program c.args.image.now) _ _ _ _ _ _ _ c.opcode_at-op.ensures.0 c.a_at-in-11.ensures.0 refl refl (price_is _ _ _ (omega (arith, c.opcode_at-op.ensures.1, c.opcode_at-op.ensures.2, c.requires.ready.prices.long)) refl) (λ s. op_11 _ _ _ _ _ s c.in-11.is) (c.copy_arg.ensures _ _ _)
 
 pub returns-in-12 : goal.returns-in-12
 returns-in-12 c =
@@ -747,8 +748,8 @@ returns-in-39 c =
 
 pub returns-in-19 : goal.returns-in-19
 returns-in-19 c =
-    arm (program c.args.image.now) _ _ _ _ _ _ (instruction _ (program c.args.image.now) _ _ _) c.opcode_at-op.ensures.0 c.a_at-in-19.ensures.0 c.b_at-in-19.ensures.0 refl (price_is _ _ _ (omega (arith, c.opcode_at-op.ensures.1, c.opcode_at-op.ensures.2, c.requires.ready.prices.long)) refl) (λ s. refl) (applies _ _ (program c.args.image.now) _ _ _ (is_apply _ _ c.if-op-lt1.false c.in_default-1.rest) c.if-op-lt22.true (c.apply.ensures.meets (program c.args.image.now) _ _ c.requires.ready.fixing.handled) (c.apply.ensures.meets_2 (program c.args.image.now) _ _ c.requires.ready.fixing.handled) (c.apply.ensures.meets_3 (program c.args.image.now) _ _ c.requires.ready.fixing.handled))
+    arm (program c.args.image.now) _ _ _ _ _ _ (instruction _ (program c.args.image.now) _ _ _) c.opcode_at-op.ensures.0 c.a_at-in-19.ensures.0 c.b_at-in-19.ensures.0 refl (price_is _ _ _ (omega (arith, c.opcode_at-op.ensures.1, c.opcode_at-op.ensures.2, c.requires.ready.prices.long)) refl) (λ s. refl) (applies _ _ (program c.args.image.now) _ _ _ (omega arith) (omega arith) (c.apply.ensures.meets (program c.args.image.now) _ _ c.requires.ready.fixing.handled) (c.apply.ensures.meets_2 (program c.args.image.now) _ _ c.requires.ready.fixing.handled) (c.apply.ensures.meets_3 (program c.args.image.now) _ _ c.requires.ready.fixing.handled))
 
 pub returns-in_default : goal.returns-in_default
 returns-in_default c =
-    arm (program c.args.image.now) _ _ _ _ _ _ _ c.opcode_at-op.ensures.0 refl refl refl (price_is _ _ _ (omega (arith, c.opcode_at-op.ensures.1, c.opcode_at-op.ensures.2, c.requires.ready.prices.long)) refl) (λ s. op_40 _ _ _ _ _ s (is_schedule _ _ c.opcode_at-op.ensures.1 c.in_default-1.rest c.opcode_at-op.ensures.2 (from_either (λ t. inl t.taken) (λ t. inr t.1.left) c.in_default.branch))) (c.schedule.ensures _ _ _ _)
+    arm (program c.args.image.now) _ _ _ _ _ _ _ c.opcode_at-op.ensures.0 refl refl refl (price_is _ _ _ (omega (arith, c.opcode_at-op.ensures.1, c.opcode_at-op.ensures.2, c.requires.ready.prices.long)) refl) (λ s. op_40 _ _ _ _ _ s (elim c.in_default.branch [ in_default-via-then-op-lt1 w ↦ omega arith | in_default-via-else-op-lt1+else-op-lt22 w ↦ omega arith ])) (c.schedule.ensures _ _ _ _)

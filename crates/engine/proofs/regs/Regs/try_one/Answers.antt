@@ -10,18 +10,18 @@ use Rattle.engine.proofs.regs.Regs.try_one.Goals as goal
 
 pub returns-then-sp-self : goal.returns-then-sp-self
 returns-then-sp-self c =
-    rw c.faulty.ensures (record { each = λ P ws hs wi or h m n. one_few h wi or P _ c.if-sp-self.true }, fair_fault _ _ (omega arith))
+    rw c.faulty.ensures (record { deals = record { each = λ P ws hs wi or h m n. one_few h wi or P _ c.if-sp-self.true }; fair = fair_fault _ _ (omega arith) })
 
 pub returns-then-w-ne1 : goal.returns-then-w-ne1
 returns-then-w-ne1 c =
-    rw c.faulty-then-w-ne1.ensures (
-      record {
+    rw c.faulty-then-w-ne1.ensures (record {
+      deals = record {
         each = λ P ws hs wi or h m n.
             one_no_ref h wi or P _ _ (reads_below h 0 _ (omega (arith, c.if-sp-self.false)) refl) (small_below 0 m) c.if-sp-self.false
             c.if-w-ne1.true;
-      },
-      fair_fault _ _ (omega arith),
-    )
+      };
+      fair = fair_fault _ _ (omega arith);
+    })
 
 pub bounds-heap-p : goal.bounds-heap-p
 bounds-heap-p c =

@@ -9,20 +9,20 @@ use Rattle.engine.proofs.regs.Regs.try_raise.Goals as goal
 
 pub returns-then-sp-self : goal.returns-then-sp-self
 returns-then-sp-self c =
-    rw c.faulty.ensures (λ he. record { each = λ P ws hs wi or h m n. raise_few h wi or P _ c.if-sp-self.true }, fair_fault _ _ (omega arith))
+    rw c.faulty.ensures (record { by_index = λ he. record { each = λ P ws hs wi or h m n. raise_few h wi or P _ c.if-sp-self.true }; fair = fair_fault _ _ (omega arith) })
 
 pub returns-then-not-is_value : goal.returns-then-not-is_value
 returns-then-not-is_value c =
-    rw c.faulty-then-not-is_value.ensures (
-      λ he.
+    rw c.faulty-then-not-is_value.ensures (record {
+      by_index = λ he.
           record {
             each = λ P ws hs wi or h m n.
                 raise_wrong h wi or P _ c.if-sp-self.false
                 (sym (c.is_value.ensures _ (reads_below h 0 _ (omega (arith, c.if-sp-self.false)) refl) (small_below 0 m))
                 ∙ not-true _ c.if-not-is_value.true-raw);
-          },
-      fair_fault _ _ (omega arith),
-    )
+          };
+      fair = fair_fault _ _ (omega arith);
+    })
 
 pub returns : goal.returns
 returns c =

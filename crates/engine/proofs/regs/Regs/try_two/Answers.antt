@@ -10,31 +10,31 @@ use Rattle.engine.proofs.regs.Regs.try_two.Goals as goal
 
 pub returns-then-sp-self-lt2 : goal.returns-then-sp-self-lt2
 returns-then-sp-self-lt2 c =
-    rw c.faulty.ensures (record { each = λ P ws hs wi or h m n. two_few h wi or P _ c.if-sp-self-lt2.true }, fair_fault _ _ (omega arith))
+    rw c.faulty.ensures (record { deals = record { each = λ P ws hs wi or h m n. two_few h wi or P _ c.if-sp-self-lt2.true }; fair = fair_fault _ _ (omega arith) })
 
 pub returns-then-w-ne1 : goal.returns-then-w-ne1
 returns-then-w-ne1 c =
-    rw c.faulty-then-w-ne1.ensures (
-      record {
+    rw c.faulty-then-w-ne1.ensures (record {
+      deals = record {
         each = λ P ws hs wi or h m n.
             two_no_first h wi or P _ _ _ (reads_below h 0 _ (omega (arith, c.if-sp-self-lt2.false)) refl)
             (reads_below h 1 _ (omega (arith, c.if-sp-self-lt2.false)) refl) (small_below 0 m) (small_below 1 m) c.if-sp-self-lt2.false
             c.if-w-ne1.true;
-      },
-      fair_fault _ _ (omega arith),
-    )
+      };
+      fair = fair_fault _ _ (omega arith);
+    })
 
 pub returns-then-v-ne1 : goal.returns-then-v-ne1
 returns-then-v-ne1 c =
-    rw c.faulty-then-v-ne1.ensures (
-      record {
+    rw c.faulty-then-v-ne1.ensures (record {
+      deals = record {
         each = λ P ws hs wi or h m n.
             two_no_second h wi or P _ _ _ (reads_below h 0 _ (omega (arith, c.if-sp-self-lt2.false)) refl)
             (reads_below h 1 _ (omega (arith, c.if-sp-self-lt2.false)) refl) (small_below 0 m) (small_below 1 m) c.if-sp-self-lt2.false
             c.if-v-ne1.true;
-      },
-      fair_fault _ _ (omega arith),
-    )
+      };
+      fair = fair_fault _ _ (omega arith);
+    })
 
 pub bounds-heap-p : goal.bounds-heap-p
 bounds-heap-p c =

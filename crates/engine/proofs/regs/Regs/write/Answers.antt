@@ -38,13 +38,13 @@ pub offset_bounds-wires-o : goal.offset_bounds-wires-o
 offset_bounds-wires-o c = omega (arith, wire_inside c.requires.wire_fits, c.well_formed)
 
 pub bounds-wires-o : goal.bounds-wires-o
-bounds-wires-o c = omega (arith, wire_inside c.requires.wire_fits, c.room_for-room.auto.1.1.1.0)
+bounds-wires-o c = omega (arith, wire_inside c.requires.wire_fits, c.room_for-room.auto.wires)
 
 pub overflow_mul-o : goal.overflow_mul-o
 overflow_mul-o c = omega (arith, wire_inside c.requires.wire_fits, c.well_formed)
 
 pub clear_wire-requires : goal.clear_wire-requires
-clear_wire-requires c = omega (arith, wire_inside c.requires.wire_fits, c.room_for-room.auto.1.1.1.0)
+clear_wire-requires c = omega (arith, wire_inside c.requires.wire_fits, c.room_for-room.auto.wires)
 
 pub returns-then-room-ne0-2 : goal.returns-then-room-ne0-2
 returns-then-room-ne0-2 c =
