@@ -412,9 +412,9 @@ impl Regs {
         requires cost_bound { cost < 65536 }
         requires applies { Applies op a }
         requires table_value { table.now ≡ cycle_table }
-        ensures meets { (P : Program) (wi or : List ℕ) → Handled P handler entry → op ≡ 19 → Meets lim self (buffers stack.old heap.old wi or) (priced cost (CallPrim1 P a)) result (buffers stack.new heap.new wi or) }
-        ensures meets_2 { (P : Program) (wi or : List ℕ) → Handled P handler entry → op ≡ 20 → Meets lim self (buffers stack.old heap.old wi or) (priced cost (CallPrim2 P a)) result (buffers stack.new heap.new wi or) }
-        ensures meets_3 { (P : Program) (wi or : List ℕ) → Handled P handler entry → op ≡ 21 → Meets lim self (buffers stack.old heap.old wi or) (priced cost (Raise P b)) result (buffers stack.new heap.new wi or) }
+        ensures prim1 { (P : Program) (wi or : List ℕ) → Handled P handler entry → op ≡ 19 → Meets lim self (buffers stack.old heap.old wi or) (priced cost (CallPrim1 P a)) result (buffers stack.new heap.new wi or) }
+        ensures prim2 { (P : Program) (wi or : List ℕ) → Handled P handler entry → op ≡ 20 → Meets lim self (buffers stack.old heap.old wi or) (priced cost (CallPrim2 P a)) result (buffers stack.new heap.new wi or) }
+        ensures raise { (P : Program) (wi or : List ℕ) → Handled P handler entry → op ≡ 21 → Meets lim self (buffers stack.old heap.old wi or) (priced cost (Raise P b)) result (buffers stack.new heap.new wi or) }
     {
         let o = self.try_any(op, a, b, stack, heap);
         let time = cost + cycles(table, op, a) as usize;

@@ -9,7 +9,7 @@ use super::placing::put_pair;
 // more than 64. Then as many as there is room for may be written.
 pub(crate) fn spread(heap: &[u32], w: u32, wires: &mut [u32], at: usize) -> usize
     requires readable { Readable heap.now w }
-    requires fact { w ≡ 2 ^ 29 → ⊥ }
+    requires not_none { w ≡ 2 ^ 29 → ⊥ }
     requires at_in_bounds { at + 65 ≤ length wires.old }
     ensures { (k : Readable heap.now w) → Spread (spreads k) (at + 1) (at + 65) wires.old (at + 1 + result) wires.new }
 {
@@ -26,7 +26,7 @@ pub(crate) fn spread(heap: &[u32], w: u32, wires: &mut [u32], at: usize) -> usiz
 #[cycle(spread_block_spread_cell)]
 fn spread_block(heap: &[u32], w: u32, wires: &mut [u32], at: usize, end: usize) -> usize
     requires readable { Readable heap.now w }
-    requires fact { w ≡ 2 ^ 29 → ⊥ }
+    requires not_none { w ≡ 2 ^ 29 → ⊥ }
     requires tuple_header_bound { tuple_header ≤ get_or heap.now (w - 2 ^ 28) 0 }
     requires at_bound { at + 2 ≤ end }
     requires end_in_bounds { end ≤ length wires.old }

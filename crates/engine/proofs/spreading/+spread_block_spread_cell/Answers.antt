@@ -9,26 +9,26 @@ use Rattle.engine.proofs.Reading.{reads_ref, reads_inside, reads_fields, reads_f
 use Rattle.engine.proofs.spreading.+spread_block_spread_cell.Goals as goal
 
 pub spread_block-overflow_sub-p : goal.spread_block-overflow_sub-p
-spread_block-overflow_sub-p t c = omega (arith, (reads_ref c.requires.readable c.requires.fact).least)
+spread_block-overflow_sub-p t c = omega (arith, (reads_ref c.requires.readable c.requires.not_none).least)
 
 pub spread_block-overflow_cast-p : goal.spread_block-overflow_cast-p
-spread_block-overflow_cast-p t c = omega (arith, reads_inside c.requires.readable c.requires.fact, c.well_formed)
+spread_block-overflow_cast-p t c = omega (arith, reads_inside c.requires.readable c.requires.not_none, c.well_formed)
 
 pub spread_block-put_pair-requires : goal.spread_block-put_pair-requires
 spread_block-put_pair-requires t c =
     record {
-      i_in_bounds = omega (arith, reads_inside c.requires.readable c.requires.fact);
+      i_in_bounds = omega (arith, reads_inside c.requires.readable c.requires.not_none);
       j_in_bounds = omega (arith, c.requires.at_bound, c.requires.end_in_bounds);
     }
 
 pub spread_block-overflow_add-n : goal.spread_block-overflow_add-n
-spread_block-overflow_add-n t c = omega (arith, reads_inside c.requires.readable c.requires.fact, c.well_formed)
+spread_block-overflow_add-n t c = omega (arith, reads_inside c.requires.readable c.requires.not_none, c.well_formed)
 
 pub spread_block-offset_bounds-heap-p : goal.spread_block-offset_bounds-heap-p
-spread_block-offset_bounds-heap-p t c = omega (arith, reads_inside c.requires.readable c.requires.fact, c.well_formed)
+spread_block-offset_bounds-heap-p t c = omega (arith, reads_inside c.requires.readable c.requires.not_none, c.well_formed)
 
 pub spread_block-bounds-heap-p : goal.spread_block-bounds-heap-p
-spread_block-bounds-heap-p t c = omega (arith, reads_inside c.requires.readable c.requires.fact, c.well_formed)
+spread_block-bounds-heap-p t c = omega (arith, reads_inside c.requires.readable c.requires.not_none, c.well_formed)
 
 pub spread_block-overflow_cast-n : goal.spread_block-overflow_cast-n
 spread_block-overflow_cast-n t c = omega (arith, c.shared_slice_known-2-1.given (c.args.w - 268435456 + 1))
@@ -38,22 +38,22 @@ spread_block-overflow_add-out t c = omega (arith, c.requires.at_bound, c.require
 
 pub spread_block-loop-i-init : goal.spread_block-loop-i-init
 spread_block-loop-i-init t c =
-    (omega arith, c.requires.at_bound, refl, λ k v e. partly_none k c.requires.fact c.requires.tuple_header_bound (omega arith) (omega arith) e)
+    (omega arith, c.requires.at_bound, refl, λ k v e. partly_none k c.requires.not_none c.requires.tuple_header_bound (omega arith) (omega arith) e)
 
 pub spread_block-overflow_add-field : goal.spread_block-overflow_add-field
-spread_block-overflow_add-field t c = omega (arith, reads_inside c.requires.readable c.requires.fact, c.well_formed)
+spread_block-overflow_add-field t c = omega (arith, reads_inside c.requires.readable c.requires.not_none, c.well_formed)
 
 pub spread_block-overflow_add-field-in-loop-i : goal.spread_block-overflow_add-field-in-loop-i
 spread_block-overflow_add-field-in-loop-i t c =
-    omega (arith, fields_inside (reads_fields c.requires.readable c.requires.fact c.requires.tuple_header_bound), c.loop-i-test.true, c.well_formed)
+    omega (arith, fields_inside (reads_fields c.requires.readable c.requires.not_none c.requires.tuple_header_bound), c.loop-i-test.true, c.well_formed)
 
 pub spread_block-offset_bounds-heap-p-in-loop-i : goal.spread_block-offset_bounds-heap-p-in-loop-i
 spread_block-offset_bounds-heap-p-in-loop-i t c =
-    omega (arith, fields_inside (reads_fields c.requires.readable c.requires.fact c.requires.tuple_header_bound), c.loop-i-test.true, c.well_formed)
+    omega (arith, fields_inside (reads_fields c.requires.readable c.requires.not_none c.requires.tuple_header_bound), c.loop-i-test.true, c.well_formed)
 
 pub spread_block-bounds-heap-p-in-loop-i : goal.spread_block-bounds-heap-p-in-loop-i
 spread_block-bounds-heap-p-in-loop-i t c =
-    omega (arith, fields_inside (reads_fields c.requires.readable c.requires.fact c.requires.tuple_header_bound), c.loop-i-test.true, c.well_formed)
+    omega (arith, fields_inside (reads_fields c.requires.readable c.requires.not_none c.requires.tuple_header_bound), c.loop-i-test.true, c.well_formed)
 
 pub spread_block-spread_cell-out-requires : goal.spread_block-spread_cell-out-requires
 spread_block-spread_cell-out-requires t c = (
@@ -76,7 +76,7 @@ spread_block-returns-then-end-out t c =
 
 pub spread_block-overflow_add-i : goal.spread_block-overflow_add-i
 spread_block-overflow_add-i t c =
-    omega (arith, fields_inside (reads_fields c.requires.readable c.requires.fact c.requires.tuple_header_bound), c.loop-i-test.true, c.well_formed)
+    omega (arith, fields_inside (reads_fields c.requires.readable c.requires.not_none c.requires.tuple_header_bound), c.loop-i-test.true, c.well_formed)
 
 pub spread_block-loop-i-smaller : goal.spread_block-loop-i-smaller
 spread_block-loop-i-smaller t c = omega (arith, c.loop-i-test.true)

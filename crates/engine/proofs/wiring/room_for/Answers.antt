@@ -34,7 +34,7 @@ spread-n-requires c =
     let k = c.requires.offered in
     record {
       readable = offered_reads k (sym (c.is_value.ensures k.word k.is k.small) ∙ not-false _ c.if-not-is_value.false-raw);
-      fact = c.if-w-eq536870912.false;
+      not_none = c.if-w-eq536870912.false;
       at_in_bounds = omega (arith, wire_inside c.requires.wire_fits);
     }
 

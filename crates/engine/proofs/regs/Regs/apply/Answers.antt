@@ -16,9 +16,9 @@ try_any-o-requires c =
 pub returns-then-o-ne0 : goal.returns-then-o-ne0
 returns-then-o-ne0 c =
     let o = c.try_any-o.ensures in record {
-      meets = λ P wi or d e. deals_meet P _ wi or (o.one e) (deal_faults P _ _ c.if-o-ne0.true) (fault_meets _ _ c.halt.ensures);
-      meets_2 = λ P wi or d e. deals_meet P _ wi or (o.two e) (deal_faults P _ _ c.if-o-ne0.true) (fault_meets _ _ c.halt.ensures);
-      meets_3 = λ P wi or d e. deals_meet P _ wi or (o.three e) (deal_faults P _ _ c.if-o-ne0.true) (fault_meets _ _ c.halt.ensures);
+      prim1 = λ P wi or d e. deals_meet P _ wi or (o.one e) (deal_faults P _ _ c.if-o-ne0.true) (fault_meets _ _ c.halt.ensures);
+      prim2 = λ P wi or d e. deals_meet P _ wi or (o.two e) (deal_faults P _ _ c.if-o-ne0.true) (fault_meets _ _ c.halt.ensures);
+      raise = λ P wi or d e. deals_meet P _ wi or (o.three e) (deal_faults P _ _ c.if-o-ne0.true) (fault_meets _ _ c.halt.ensures);
     }
 
 pub raise-requires : goal.raise-requires
@@ -33,13 +33,13 @@ raise-requires c =
 pub returns-then-o : goal.returns-then-o
 returns-then-o c =
     let o = c.try_any-o.ensures in record {
-      meets = λ P wi or d e.
+      prim1 = λ P wi or d e.
           deals_meet P _ wi or (o.one e) (deal_goes P _ _ c.if-o-ne0.false c.if-o.true)
           (c.raise.ensures P _ _ wi or d (ap (λ (n : ℕ). c.args.cost + n) (c.cycles.ensures.one e)));
-      meets_2 = λ P wi or d e.
+      prim2 = λ P wi or d e.
           deals_meet P _ wi or (o.two e) (deal_goes P _ _ c.if-o-ne0.false c.if-o.true)
           (c.raise.ensures P _ _ wi or d (ap (λ (n : ℕ). c.args.cost + n) (c.cycles.ensures.two e)));
-      meets_3 = λ P wi or d e.
+      raise = λ P wi or d e.
           deals_meet P _ wi or (o.three e) (deal_goes P _ _ c.if-o-ne0.false c.if-o.true)
           (c.raise.ensures P _ _ wi or d (ap (λ (n : ℕ). c.args.cost + n) (c.cycles.ensures.three e)));
     }
@@ -57,13 +57,13 @@ give-requires c =
 pub returns : goal.returns
 returns c =
     let o = c.try_any-o.ensures in record {
-      meets = λ P wi or d e.
+      prim1 = λ P wi or d e.
           deals_meet P _ wi or (o.one e) (deal_goes P _ _ c.if-o-ne0.false c.if-o.false)
           (c.give.ensures _ _ wi or (ap (λ (n : ℕ). c.args.cost + n) (c.cycles.ensures.one e)));
-      meets_2 = λ P wi or d e.
+      prim2 = λ P wi or d e.
           deals_meet P _ wi or (o.two e) (deal_goes P _ _ c.if-o-ne0.false c.if-o.false)
           (c.give.ensures _ _ wi or (ap (λ (n : ℕ). c.args.cost + n) (c.cycles.ensures.two e)));
-      meets_3 = λ P wi or d e.
+      raise = λ P wi or d e.
           deals_meet P _ wi or (o.three e) (deal_goes P _ _ c.if-o-ne0.false c.if-o.false)
           (c.give.ensures _ _ wi or (ap (λ (n : ℕ). c.args.cost + n) (c.cycles.ensures.three e)));
     }

@@ -748,7 +748,7 @@ returns-in-39 c =
 
 pub returns-in-19 : goal.returns-in-19
 returns-in-19 c =
-    arm (program c.args.image.now) _ _ _ _ _ _ (instruction _ (program c.args.image.now) _ _ _) c.opcode_at-op.ensures.0 c.a_at-in-19.ensures.0 c.b_at-in-19.ensures.0 refl (price_is _ _ _ (omega (arith, c.opcode_at-op.ensures.1, c.opcode_at-op.ensures.2, c.requires.ready.prices.long)) refl) (λ s. refl) (applies _ _ (program c.args.image.now) _ _ _ (omega arith) (omega arith) (c.apply.ensures.meets (program c.args.image.now) _ _ c.requires.ready.fixing.handled) (c.apply.ensures.meets_2 (program c.args.image.now) _ _ c.requires.ready.fixing.handled) (c.apply.ensures.meets_3 (program c.args.image.now) _ _ c.requires.ready.fixing.handled))
+    arm (program c.args.image.now) _ _ _ _ _ _ (instruction _ (program c.args.image.now) _ _ _) c.opcode_at-op.ensures.0 c.a_at-in-19.ensures.0 c.b_at-in-19.ensures.0 refl (price_is _ _ _ (omega (arith, c.opcode_at-op.ensures.1, c.opcode_at-op.ensures.2, c.requires.ready.prices.long)) refl) (λ s. refl) (applies _ _ (program c.args.image.now) _ _ _ (omega arith) (omega arith) (c.apply.ensures.prim1 (program c.args.image.now) _ _ c.requires.ready.fixing.handled) (c.apply.ensures.prim2 (program c.args.image.now) _ _ c.requires.ready.fixing.handled) (c.apply.ensures.raise (program c.args.image.now) _ _ c.requires.ready.fixing.handled))
 
 pub returns-in_default : goal.returns-in_default
 returns-in_default c =
