@@ -1,5 +1,5 @@
 /*
- * The proved machine, for hosts in C: link target/staticlib/libhost.a, which `rt staticlib host` makes.
+ * The proved machine, for hosts in C: link target/staticlib/libhost.a, which `tools/build` makes.
  *
  * Any image, card, limits and buffers may be handed in. A call that can't run is refused, and then it has written to no
  * buffer. What C can't tell the machine is the caller's to keep: each pointer is to as many words as its length says, and

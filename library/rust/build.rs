@@ -1,4 +1,4 @@
-//! Links libhost.a, which `rt staticlib host` leaves in the project's target/staticlib.
+//! Links libhost.a, which `tools/build` leaves in the project's target/staticlib.
 
 use std::path::Path;
 

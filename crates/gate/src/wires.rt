@@ -104,6 +104,7 @@ fn zeros(s: &[u32]) -> bool
 }
 
 // "A wire is a count k (0..64), k words, then zeros. k = 0 means empty."
+#[tactic(auto, using(crate::proofs::Cells::wire_long, crate::proofs::Cells::wire_dirty, crate::proofs::Cells::wire_empty, crate::proofs::Cells::wire_value))]
 fn wire_ok(wires: &[u32], i: usize) -> bool
     requires { (i < 65536) × (65 * i + 65 ≤ length wires.now) }
     ensures { result ≡ wire_ok wires.now i }

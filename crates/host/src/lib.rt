@@ -1,4 +1,4 @@
-// The call for hosts in C and Rust: numbers and slices alone.
+// The call for hosts in C and Rust: numbers and slices alone. The crate host_c exports it.
 #![tactic(auto)]
 
 ghost use Rattle.std.specs.Prelude.{◌≡◌, set};
@@ -87,8 +87,7 @@ fn tell(figures: &mut [u32], r: Report) -> u32
 }
 
 // One call, as `run` of the crate engine: the refusal's number is returned, 0 for none, and the eight figures go to `figures`.
-#[unsafe(no_mangle)]
-pub extern "C" fn ham_run(
+pub fn ham_run(
     image: &[u8],
     card: &[u32],
     t: u32,
