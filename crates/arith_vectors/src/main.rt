@@ -9,6 +9,7 @@
 #![tactic(auto)]
 
 use arith::Cut;
+use std::io;
 
 // The state after s: s * 1664525 + 1013904223 modulo 2^32.
 fn next(s: u32) -> u32 {
@@ -189,25 +190,21 @@ fn near(op: u32, part: u32) -> u64 {
     h
 }
 
-fn line(op: u32, part: u32, h: u64) {
-    io::print_decimal(1, op as u64);
-    io::write_all(1, b" ");
-    io::print_decimal(1, part as u64);
-    io::write_all(1, b" ");
-    io::print_decimal(1, h);
-    io::write_all(1, b"\n");
+fn line(rt: &impl Print, op: u32, part: u32, h: u64) -> io::Result<()> {
+    println!(rt; "{op} {part} {h}")
 }
 
 // Operations 0 to 16 on each of the 16 classes; then 15 and 16 on each of 16 parts, numbered from 16 on.
-fn main() {
+fn main(rt: HostRuntime) -> io::Result<()> {
     let mut k: u32 = 0;
     while k < 272 {
-        line(k / 16, k % 16, pairs(k / 16, k % 16));
+        line(&rt, k / 16, k % 16, pairs(k / 16, k % 16))?;
         k += 1;
     }
     let mut j: u32 = 0;
     while j < 32 {
-        line(15 + j / 16, 16 + j % 16, near(15 + j / 16, j % 16));
+        line(&rt, 15 + j / 16, 16 + j % 16, near(15 + j / 16, j % 16))?;
         j += 1;
     }
+    Ok(())
 }

@@ -3,6 +3,8 @@
 #![tactic(auto)]
 
 use gate::Verdict;
+use std::io;
+use std::io::Read;
 
 // What has been read of a line: the place of a pair, if it has been read, and the digits of a number so far.
 #[derive(Clone, Copy)]
@@ -147,15 +149,16 @@ fn copy_words(from: &[u32], to: &mut [u32]) {
 
 // A line ends: its call is judged; the first is kept as the base, and any other makes way for the base.
 fn end_line(
+    out: &impl Print,
     first: bool,
     image: &mut [u8],
     kept_image: &mut [u8],
     words: &mut [u32],
     kept_words: &mut [u32],
     area: &[u32],
-) {
+) -> io::Result<()> {
     let line = [judge(image, words, area), b'\n'];
-    io::write_all(1, &line);
+    out.write_all(&line)?;
     if first {
         copy_bytes(image, kept_image);
         copy_words(words, kept_words);
@@ -163,9 +166,11 @@ fn end_line(
         copy_bytes(kept_image, image);
         copy_words(kept_words, words);
     }
+    Ok(())
 }
 
 fn feed(
+    out: &impl Print,
     b: u8,
     pen: Pen,
     image: &mut [u8],
@@ -173,25 +178,26 @@ fn feed(
     words: &mut [u32],
     kept_words: &mut [u32],
     area: &[u32],
-) -> Pen {
+) -> io::Result<Pen> {
     if b'0' <= b {
-        return Pen {
+        return Ok(Pen {
             first: pen.first,
             placed: pen.placed,
             place: pen.place,
             started: true,
             value: with_digit(pen.value, b),
-        };
+        });
     }
     let after = end_number(pen, image, words);
     if b != b'\n' {
-        return after;
+        return Ok(after);
     }
-    end_line(after.first, image, kept_image, words, kept_words, area);
-    fresh(false)
+    end_line(out, after.first, image, kept_image, words, kept_words, area)?;
+    Ok(fresh(false))
 }
 
 fn feed_all(
+    out: &impl Print,
     text: &[u8],
     start: Pen,
     image: &mut [u8],
@@ -199,15 +205,15 @@ fn feed_all(
     words: &mut [u32],
     kept_words: &mut [u32],
     area: &[u32],
-) -> Pen {
+) -> io::Result<Pen> {
     let mut pen = start;
     let mut i = 0;
     while i < text.len() {
         let b = text[i];
-        pen = feed(b, pen, image, kept_image, words, kept_words, area);
+        pen = feed(out, b, pen, image, kept_image, words, kept_words, area)?;
         i += 1;
     }
-    pen
+    Ok(pen)
 }
 
 // "before the first line each byte is 4 where its place is a multiple of 8 and else 0"
@@ -221,46 +227,61 @@ fn fill(image: &mut [u8]) {
 
 // Some of the input; nothing once it has ended.
 fn feed_some(
+    input: &mut impl Read,
+    out: &impl Print,
     pen: Pen,
     image: &mut [u8],
     kept_image: &mut [u8],
     words: &mut [u32],
     kept_words: &mut [u32],
     area: &[u32],
-) -> Pen {
+) -> io::Result<Pen> {
     let mut text = [0u8; 4096];
-    let got = libc::read(0, &mut text);
-    let n = io::count(got, &text);
-    feed_all(&text[..n], pen, image, kept_image, words, kept_words, area)
+    let n = input.read(&mut text)?;
+    feed_all(
+        out,
+        &text[..n],
+        pen,
+        image,
+        kept_image,
+        words,
+        kept_words,
+        area,
+    )
 }
 
 fn run(
+    input: &mut impl Read,
+    out: &impl Print,
     image: &mut [u8],
     kept_image: &mut [u8],
     words: &mut [u32],
     kept_words: &mut [u32],
     area: &[u32],
-) {
+) -> io::Result<()> {
     fill(image);
     let mut pen = fresh(true);
     let mut turns: u32 = 0;
     while turns < 100 {
-        pen = feed_some(pen, image, kept_image, words, kept_words, area);
+        pen = feed_some(input, out, pen, image, kept_image, words, kept_words, area)?;
         turns += 1;
     }
+    Ok(())
 }
 
-fn main() {
+fn main(rt: HostRuntime) -> io::Result<()> {
     let mut image = [0u8; 40000];
     let mut kept_image = [0u8; 40000];
     let mut words = [0u32; 2048];
     let mut kept_words = [0u32; 2048];
     let area = [0u32; 16400];
     run(
+        &mut rt.stdin(),
+        &rt,
         &mut image,
         &mut kept_image,
         &mut words,
         &mut kept_words,
         &area,
-    );
+    )
 }

@@ -5,7 +5,7 @@
 ghost use Rattle.std.specs.Prelude.{◌≤◌, length};
 ghost use Rattle.ham.specs.Read.{Filled, Collected, Replied};
 
-use libc::{STDERR_FILENO, STDIN_FILENO, STDOUT_FILENO};
+use std::io::Read;
 
 // How many bytes were read, whether that is all that was asked for, and, where it isn't, whether a read failed: else the input has ended.
 #[derive(Clone, Copy)]
@@ -23,18 +23,19 @@ struct Reply {
 }
 
 // Reads until the part is full, the input ends or a read fails.
-fn fill(part: &mut [u8]) -> Got
+fn fill(stdin: &mut impl Read, part: &mut [u8]) -> Got
     ensures { Filled part.new result }
 {
     let mut done = 0;
     while done < part.len() {
-        let got = libc::read(STDIN_FILENO, &mut part[done..]);
-        let more = io::count(got, &part[done..]);
+        let got = stdin.read(&mut part[done..]);
+        let failed = got.is_err();
+        let more = got.unwrap_or(0);
         if more == 0 {
             return Got {
                 count: done,
                 whole: false,
-                failed: got < 0,
+                failed,
             };
         }
         done += more;
@@ -47,14 +48,14 @@ fn fill(part: &mut [u8]) -> Got
 }
 
 // Reads what the program needs and no byte more: each turn asks for what the bytes so far say is missing.
-fn collect(input: &mut [u8]) -> Got
+fn collect(stdin: &mut impl Read, input: &mut [u8]) -> Got
     requires { 36159 ≤ length input.old }
     ensures { Collected input.new result }
 {
     let mut done = 0;
     let mut upto = sheet::needed(&input[..done]);
     while done < upto {
-        let got = fill(&mut input[done..upto]);
+        let got = fill(stdin, &mut input[done..upto]);
         done += got.count;
         if !got.whole {
             return Got {
@@ -73,11 +74,11 @@ fn collect(input: &mut [u8]) -> Got
 }
 
 // An input that can't be read ends there: what is printed is then a refusal.
-fn respond(input: &mut [u8], line: &mut [u8; 88]) -> Reply
+fn respond(stdin: &mut impl Read, input: &mut [u8], line: &mut [u8; 88]) -> Reply
     requires { 36159 ≤ length input.old }
     ensures { Replied input.new line.old line.new result }
 {
-    let got = collect(input);
+    let got = collect(stdin, input);
     let n = got.count;
     Reply {
         got,
@@ -85,17 +86,17 @@ fn respond(input: &mut [u8], line: &mut [u8; 88]) -> Reply
     }
 }
 
-// What went wrong outside the program is said on standard error.
-fn main() {
+// What went wrong outside the program is said on standard error. Where that fails too, nothing can be said.
+fn main(rt: HostRuntime) {
     let mut input = [0u8; 36159];
     let mut line = [0u8; 88];
-    let r = respond(&mut input, &mut line);
+    let r = respond(&mut rt.stdin(), &mut input, &mut line);
     let start = r.start;
-    let written = io::write_all(STDOUT_FILENO, &line[start..]);
+    let written = rt.write_all(&line[start..]).is_ok();
     if r.got.failed {
-        io::write_all(STDERR_FILENO, b"ham: standard input can't be read\n");
+        let _ = eprintln!(rt; "ham: standard input can't be read");
     }
     if !written {
-        io::write_all(STDERR_FILENO, b"ham: standard output can't be written\n");
+        let _ = eprintln!(rt; "ham: standard output can't be written");
     }
 }
