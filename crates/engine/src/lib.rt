@@ -146,6 +146,7 @@ fn run_accepted(
 }
 
 // One box, one activation, from empty stack and heap to an ending: any image, card, limits, areas, wires and order may be handed in.
+#[tactic(auto, using(crate::proofs::Opening::no_number))]
 pub fn run(
     image: &[u8],
     card: &[u32],

@@ -29,15 +29,16 @@ impl Regs {
         ensures { (u : Underway image.now card.now at.now orders.now lim fixed self (buffers stack.old heap.old wires.old order.old)) → Over (calls image.now card.now u.limits u.lent) result.regs result.ending (buffers stack.new heap.new wires.new order.new) }
     {
         let mut s = self;
-        let ending = loop {
+        let ending = 'turns: loop {
             let turn = s.step(
                 lim, fixed, image, at, orders, card, table, stack, heap, wires, order,
             );
             let e = turn.ending;
             let next = turn.regs;
             s = next;
-            if !turn.go {
-                break e;
+            let over = !turn.go;
+            if over {
+                break 'turns e;
             }
         };
         s.halt(ending)

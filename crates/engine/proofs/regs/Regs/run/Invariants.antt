@@ -7,8 +7,8 @@ use Rattle.engine.specs.Underway.{Underway, calls}
 use Rattle.engine.proofs.Looping.{may_step, goes_on, is_over, unless_not, if_not}
 use Rattle.engine.proofs.regs.Regs.run.Given as goal
 
-abbrev pub invariant-loop-lim : goal.invariant-loop-lim
-invariant-loop-lim l = ((u : Underway l.image l.card l.at l.orders l.lim l.fixed l.initial.s (buffers l.initial.stack l.initial.heap l.initial.wires l.initial.order)) → Going (calls l.image l.card u.limits u.lent) l.s (buffers l.stack l.heap l.wires l.order)) × (length l.stack ≡ length l.initial.stack) × (length l.heap ≡ length l.initial.heap) × (length l.wires ≡ length l.initial.wires) × (length l.order ≡ length l.initial.order)
+abbrev pub invariant-turns : goal.invariant-turns
+invariant-turns l = ((u : Underway l.image l.card l.at l.orders l.lim l.fixed l.initial.s (buffers l.initial.stack l.initial.heap l.initial.wires l.initial.order)) → Going (calls l.image l.card u.limits u.lent) l.s (buffers l.stack l.heap l.wires l.order)) × (length l.stack ≡ length l.initial.stack) × (length l.heap ≡ length l.initial.heap) × (length l.wires ≡ length l.initial.wires) × (length l.order ≡ length l.initial.order)
 
-abbrev pub decreases-loop-lim : goal.decreases-loop-lim
-decreases-loop-lim l = l.s.left
+abbrev pub decreases-turns : goal.decreases-turns
+decreases-turns l = l.s.left
