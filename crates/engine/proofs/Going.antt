@@ -1,6 +1,6 @@
 -- One turn of the loop, of a run that is under way.
 use mathlib.Core.Path.{◌≡◌, refl, sym, ap, ◌∙◌, subst}
-use mathlib.Core.Bool.{Bool, true, false, true≢false, false≢true}
+use mathlib.Core.Bool.{Bool, true, false}
 use Prim.Native.Nat.{ℕ, suc, ◌+◌, ◌-◌, ◌≤◌, ◌<◌, max}
 use native.Mathlib.Omega.{arith}
 use Rattle.limits.specs.Machine.{ends, goes, Run, Ending as Halt, own, limit, stopped, Inside, charge, limited}

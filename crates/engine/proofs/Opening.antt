@@ -2,7 +2,7 @@
 use mathlib.Core.Path.{◌≡◌, refl, sym, ap, ◌∙◌, subst}
 use mathlib.Core.Bool.{false}
 use mathlib.Core.List.{List, []}
-use Prim.Native.Nat.{ℕ, zero, suc, ◌+◌, ◌-◌, ◌^◌, ◌≤◌, ◌<◌}
+use Prim.Native.Nat.{ℕ, zero, suc, ◌-◌, ◌^◌, ◌≤◌, ◌<◌}
 use native.Mathlib.Nat.{not-suc-le-zero}
 use native.Mathlib.Omega.{arith}
 use mathlib.Core.Logic.{◌⊎◌, inl, inr}
@@ -16,7 +16,7 @@ use Rattle.hume.specs.Refusals.{length_ok}
 use Rattle.hume.specs.State.{State, locals, sp, hp}
 use Rattle.hume.specs.Machine.{start}
 use Rattle.hume.specs.Call.{Given, outcome, refusal}
-use Rattle.laws.specs.Accepted.{Accepted, Handler, absent, present}
+use Rattle.laws.specs.Accepted.{Handler, absent, present}
 use Rattle.laws.proofs.Tests.{and_left}
 use Rattle.reach.specs.Sound.{Sound, Ranged}
 use Rattle.reach.specs.Demands.{Allowed, Typed, unlimited, begins}

@@ -1,13 +1,13 @@
 -- What a charge makes of an instruction, of any state that the registers and buffers bear: two laws serve every instruction.
 use mathlib.Core.Path.{◌≡◌, refl, sym, ap, ◌∙◌, subst}
 use mathlib.Core.Bool.{Bool, true, false, true≢false, false≢true}
-use mathlib.Core.List.{List, [], ◌∷◌, ◌++◌, append-nil}
+use mathlib.Core.List.{List, [], ◌++◌, append-nil}
 use Prim.Native.Nat.{ℕ, ◌+◌, ◌-◌, ◌≤◌, ◌<◌}
 use native.Mathlib.Omega.{arith}
 use lib.ListN.{length, get_or, length-append}
 use Rattle.limits.specs.Machine.{Act, ends, goes}
 use Rattle.hume.specs.Words.{Word, null, bits}
-use Rattle.hume.specs.State.{State, End, Deed, leaving, locals, values, lp, sp, hp, below}
+use Rattle.hume.specs.State.{State, End, Deed, leaving, locals, values, lp, below}
 use Rattle.hume.specs.Machine.{charged}
 use Rattle.engine.specs.Turns.{Bears, plain, core, Holds, end_of, halt, Charging, Buffers, Turned, ended, went}
 use Rattle.engine.specs.Turns as turns

@@ -15,7 +15,7 @@ use Rattle.limits.specs.Machine.{ends, goes}
 use Rattle.hume.specs.Tests.{pick, every}
 use Rattle.hume.specs.Words.{Word, null, ref, link, raw, bits, is_value, bool_header, int_header, float_header, exn_header}
 use Rattle.hume.specs.Image.{Program}
-use Rattle.hume.specs.State.{State, Deed, fault, unhandled, leaving, values, locals, without, need, builds, below, hp, raise}
+use Rattle.hume.specs.State.{State, Deed, fault, unhandled, leaving, values, locals, without, need, builds, below, raise}
 use Rattle.hume.specs.Instructions.{yielded as resulted, operand, operand_ok, CallPrim1, CallPrim2, Raise}
 use Rattle.hume.specs.Numbers.{to_int}
 use Rattle.hume.specs.Primitives.{Yield, value, raises, Primitive, truth, divided, converted, is_true, one_operand, two_operands, primitives, no_primitive, prim1, prim2}

@@ -1,5 +1,5 @@
 -- Plain facts of the registers between turns, from which every index and sum of the code is in range.
-use Rattle.std.specs.Prelude.{◌≡◌, List, ℕ, ◌+◌, ◌-◌, ◌/◌, ◌%◌, ◌^◌, ◌≤◌, ◌<◌, length, get_or}
+use Rattle.std.specs.Prelude.{◌≡◌, List, ℕ, ◌+◌, ◌/◌, ◌%◌, ◌^◌, ◌≤◌, ◌<◌, length, get_or}
 use Rattle.hume.specs.Image.{program, code_at, ruleset_at, order_at}
 use Rattle.laws.specs.Accepted.{Bytes, Accepted}
 use Rattle.engine.specs.declared.regs.Limits.{Limits}

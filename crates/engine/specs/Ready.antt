@@ -1,5 +1,5 @@
 -- What the step needs of the registers, the image, the card and the buffers: it holds between any two turns of a run.
-use Rattle.std.specs.Prelude.{◌≡◌, List, ℕ, ◌+◌, ◌*◌, ◌≤◌, ◌<◌, length}
+use Rattle.std.specs.Prelude.{◌≡◌, List, ℕ, ◌≤◌, ◌<◌, length}
 use Rattle.hume.specs.Image.{program, code_at}
 use Rattle.laws.specs.Accepted.{CardFits, OrderFits, WiresFit}
 use Rattle.engine.specs.Turns.{Buffers}

@@ -1,6 +1,6 @@
 -- Images and calls for worked sums, written out in bytes.
 use mathlib.Core.List.{List, [], ◌∷◌, ◌++◌}
-use Prim.Native.Nat.{ℕ, ◌+◌, ◌*◌, ◌/◌, ◌%◌}
+use Prim.Native.Nat.{ℕ, ◌+◌, ◌/◌, ◌%◌}
 use lib.ListN.{length, replicate}
 use Rattle.limits.specs.Machine.{Limits}
 use Rattle.hume.specs.Call.{Given}

@@ -1,7 +1,7 @@
 -- The readings of docs/DECISIONS.md that a run shows, by computation: the figures of a call for each.
 use mathlib.Core.Path.{◌≡◌, refl}
 use mathlib.Core.List.{List, [], ◌∷◌, ◌++◌, map}
-use Prim.Native.Nat.{ℕ, ◌+◌, ◌*◌}
+use Prim.Native.Nat.{ℕ}
 use lib.ListN.{replicate}
 use Rattle.hume.specs.Call.{Given}
 use Rattle.hume.proofs.Build.{Set, Sum, sum, image, entered, plain, limits, given}

@@ -2,7 +2,7 @@
 -- what the program writes.
 use mathlib.Core.Path.{◌≡◌, refl}
 use mathlib.Core.List.{List, [], ◌∷◌, ◌++◌, map}
-use Prim.Native.Nat.{ℕ, ◌+◌, ◌*◌, ◌/◌, ◌%◌}
+use Prim.Native.Nat.{ℕ, ◌+◌}
 use lib.ListN.{replicate, set, take}
 use Rattle.limits.specs.Machine.{Limits}
 use Rattle.hume.specs.Call.{Given, answer}

@@ -1,5 +1,5 @@
 -- What one call is given, and what it returns and leaves in every buffer, refused or accepted.
-use Rattle.std.specs.Prelude.{List, [], ◌∷◌, ◌++◌, map, ℕ, zero, suc, ◌+◌, ◌-◌, length, replicate}
+use Rattle.std.specs.Prelude.{List, ◌++◌, map, ℕ, zero, suc, ◌-◌, length, replicate}
 use Rattle.limits.specs.Machine.{fresh, Limits, Time, Stack, Heap, Ending, own, limit, Outcome, limited}
 use Rattle.hume.specs.Words.{Word, bits}
 use Rattle.hume.specs.Image.{program}

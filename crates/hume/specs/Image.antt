@@ -1,5 +1,5 @@
 -- Document 01, "The image": from bytes to a program.
-use Rattle.std.specs.Prelude.{List, [], ◌∷◌, ℕ, zero, suc, ◌+◌, ◌*◌, get_or}
+use Rattle.std.specs.Prelude.{List, ℕ, zero, suc, ◌+◌, ◌*◌, get_or}
 
 unfoldable pub byte : List ℕ → ℕ → ℕ
 byte m i = get_or m i 0

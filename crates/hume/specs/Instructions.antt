@@ -1,5 +1,5 @@
 -- Document 01, "The instructions": one definition for each, in its order, with the faults in theirs: "Faults, lowest first".
-use Rattle.std.specs.Prelude.{Bool, true, false, not, ◌&&◌, ◌||◌, List, [], ◌∷◌, ◌++◌, ℕ, zero, suc, ◌+◌, ◌-◌, ◌*◌, ◌/◌, ◌%◌, leb, ltb, eqb, length, get_or, set, take, drop, replicate}
+use Rattle.std.specs.Prelude.{Bool, true, false, not, ◌&&◌, ◌||◌, List, [], ◌∷◌, ◌++◌, ℕ, zero, suc, ◌+◌, ◌-◌, ◌/◌, ◌%◌, leb, ltb, eqb, length, get_or, set, take, drop, replicate}
 use Rattle.limits.specs.Machine.{ends, goes}
 use Rattle.hume.specs.Tests.{pick, all}
 use Rattle.hume.specs.Words.{Word, null, none, ret, rules, static, link, raw, is_null, is_ref, is_none, is_value}

@@ -1,5 +1,5 @@
 -- Document 01, "How a run ends": the unlimited machine, and where it starts.
-use Rattle.std.specs.Prelude.{Bool, true, false, List, [], ◌∷◌, ◌++◌, ℕ, ◌+◌, ◌-◌, get_or}
+use Rattle.std.specs.Prelude.{Bool, true, false, List, [], ◌++◌, ℕ, ◌+◌, ◌-◌, get_or}
 use Rattle.limits.specs.Machine.{Act, ends, goes, Machine}
 use Rattle.hume.specs.Image.{Program}
 use Rattle.hume.specs.State.{State, sp, hp, End, finished, fault, Effect, Deed}

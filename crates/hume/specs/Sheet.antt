@@ -1,5 +1,5 @@
 -- The program: from the bytes of standard input to the bytes of standard output.
-use Rattle.std.specs.Prelude.{Bool, ◌&&◌, ◌||◌, List, [], ◌∷◌, ◌++◌, ℕ, zero, suc, ◌+◌, ◌-◌, ◌*◌, ◌/◌, ◌%◌, leb, ltb, eqb, length, take, drop, replicate}
+use Rattle.std.specs.Prelude.{Bool, ◌&&◌, List, [], ◌∷◌, ◌++◌, ℕ, zero, suc, ◌+◌, ◌*◌, ◌/◌, ◌%◌, leb, ltb, eqb, length, take, drop, replicate}
 use Rattle.hume.specs.Tests.{pick}
 use Rattle.hume.specs.Image.{Program, program, full}
 use Rattle.hume.specs.Refusals.{unless, image_refusal}

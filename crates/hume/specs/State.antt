@@ -1,6 +1,6 @@
 -- Document 01, "Words and registers" and "How a run ends": the machine's state, what is read of it, and what an instruction
 -- may do.
-use Rattle.std.specs.Prelude.{Bool, true, false, ◌&&◌, ◌||◌, List, [], ◌∷◌, ◌++◌, ℕ, zero, suc, ◌+◌, ◌-◌, ◌*◌, ◌%◌, ltb, eqb, length, get_or, take}
+use Rattle.std.specs.Prelude.{Bool, true, false, ◌&&◌, List, [], ◌∷◌, ◌++◌, ℕ, zero, suc, ◌+◌, ◌-◌, ◌%◌, ltb, eqb, length, get_or, take}
 use Rattle.limits.specs.Machine.{Act, ends, goes}
 use Rattle.hume.specs.Tests.{pick}
 use Rattle.hume.specs.Words.{Word, null, ref, link, raw, bits, is_ref, exn_header}

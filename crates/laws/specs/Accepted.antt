@@ -1,5 +1,5 @@
 -- What an accepted input gives to whoever works with it, so that nothing is tested again.
-use Rattle.std.specs.Prelude.{◌≡◌, List, ℕ, ◌+◌, ◌-◌, ◌*◌, ◌^◌, ◌≤◌, ◌<◌, T, length, get_or}
+use Rattle.std.specs.Prelude.{◌≡◌, List, ℕ, ◌+◌, ◌*◌, ◌^◌, ◌≤◌, ◌<◌, T, length, get_or}
 use Rattle.hume.specs.Image.{Program, byte, order_at}
 use Rattle.hume.specs.Refusals.{field_ok, format_of, permutation, order_of, last_ok}
 use Rattle.hume.specs.Values.{wire_ok}

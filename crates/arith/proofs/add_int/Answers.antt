@@ -1,6 +1,5 @@
 use mathlib.Core.Path.{sym}
 use native.Mathlib.Omega.{arith}
-use borrow.Author.Rules.{rules}
 use Rattle.arith.proofs.Ints.{add_is}
 use Rattle.arith.proofs.add_int.Goals as goal
 

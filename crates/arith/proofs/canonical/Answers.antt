@@ -1,5 +1,4 @@
 use mathlib.Core.Path.{sym, ◌∙◌}
-use borrow.Author.Rules.{rules}
 use Rattle.arith.proofs.Floats.{canonical_nan, canonical_other}
 use Rattle.arith.proofs.canonical.Goals as goal
 

@@ -3,7 +3,6 @@ use mathlib.Core.Bool.{not, beq}
 use Prim.Native.Nat.{ℕ, ◌/◌, ◌^◌}
 use lib.Dec.{leb}
 use native.Mathlib.Omega.{arith}
-use borrow.Author.Rules.{rules}
 use Rattle.arith.specs.Signs.{signed}
 use Rattle.arith.proofs.Ints.{magnitude_range, div_is, div_none}
 use Rattle.arith.proofs.div_int.Goals as goal

@@ -1,5 +1,4 @@
 use native.Mathlib.Omega.{arith}
-use borrow.Author.Rules.{rules}
 use Rattle.arith.proofs.Cutting.{dropped_is}
 use Rattle.arith.proofs.dropped.Goals as goal
 

@@ -1,6 +1,5 @@
 use mathlib.Core.Path.{ap₂, ◌∙◌}
 use lib.Ieee as Ieee
-use borrow.Author.Rules.{rules}
 use Rattle.arith.proofs.Floats.{eq_float_lem}
 use Rattle.arith.proofs.eq_float.Goals as goal
 

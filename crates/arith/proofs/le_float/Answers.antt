@@ -1,6 +1,5 @@
 use mathlib.Core.Path.{ap₂, ◌∙◌}
 use lib.Ieee as Ieee
-use borrow.Author.Rules.{rules}
 use Rattle.arith.proofs.Floats.{le_float_lem}
 use Rattle.arith.proofs.le_float.Goals as goal
 

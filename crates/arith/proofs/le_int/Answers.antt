@@ -1,6 +1,5 @@
 use mathlib.Core.Path.{sym, ap, ◌∙◌}
 use mathlib.Core.Bool.{not}
-use borrow.Author.Rules.{rules}
 use Rattle.arith.proofs.Ints.{le_is}
 use Rattle.arith.proofs.le_int.Goals as goal
 

@@ -1,7 +1,6 @@
 use mathlib.Core.Path.{ap₂, ◌∙◌}
 use lib.Dec.{ltb}
 use native.Mathlib.Omega.{arith}
-use borrow.Author.Rules.{rules}
 use Rattle.arith.proofs.Ints.{lt_is}
 use Rattle.arith.proofs.lt_int.Goals as goal
 

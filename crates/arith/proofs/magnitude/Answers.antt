@@ -1,6 +1,5 @@
 use mathlib.Core.Path.{sym}
 use native.Mathlib.Omega.{arith}
-use borrow.Author.Rules.{rules}
 use Rattle.arith.proofs.Ints.{magnitude_low, magnitude_high}
 use Rattle.arith.proofs.magnitude.Goals as goal
 

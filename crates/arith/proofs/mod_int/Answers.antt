@@ -2,7 +2,6 @@ use mathlib.Core.Path.{sym, ap₂, ◌∙◌}
 use Prim.Native.Nat.{ℕ, ◌%◌, ◌^◌}
 use lib.Dec.{leb}
 use native.Mathlib.Omega.{arith}
-use borrow.Author.Rules.{rules}
 use Rattle.arith.specs.Signs.{signed}
 use Rattle.arith.proofs.Ints.{magnitude_range, mod_is, mod_none}
 use Rattle.arith.proofs.mod_int.Goals as goal

@@ -1,7 +1,6 @@
 use mathlib.Core.Path.{◌∙◌}
 use lib.Ieee as Ieee
 use lib.Ieee.{binary32}
-use borrow.Author.Rules.{rules}
 use Rattle.arith.proofs.Floats.{operated, mul_float_lem}
 use Rattle.arith.proofs.mul_float.Goals as goal
 

@@ -1,5 +1,4 @@
 use native.Mathlib.Omega.{arith}
-use borrow.Author.Rules.{rules}
 use Rattle.arith.proofs.Rounding.{few, answer}
 use Rattle.arith.proofs.nearest.Goals as goal
 

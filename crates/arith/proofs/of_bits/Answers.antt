@@ -1,5 +1,4 @@
 use mathlib.Core.Path.{sym, ◌∙◌}
-use borrow.Author.Rules.{rules}
 use Rattle.arith.proofs.Floats.{failed, float_nan, float_other}
 use Rattle.arith.proofs.of_bits.Goals as goal
 

@@ -1,6 +1,5 @@
 use mathlib.Core.Path.{sym}
 use native.Mathlib.Omega.{arith}
-use borrow.Author.Rules.{rules}
 use Rattle.arith.proofs.Ints.{sub_is}
 use Rattle.arith.proofs.sub_int.Goals as goal
 

@@ -3,7 +3,6 @@ use Prim.Native.Nat.{◌^◌}
 use mathlib.Core.Bool.{true, false}
 use native.Mathlib.Omega.{arith}
 use borrow.Author.Tests.{lt-leb, le-leb}
-use borrow.Author.Rules.{rules}
 use Rattle.arith.proofs.Ints.{magnitude_range}
 use Rattle.arith.proofs.Rounding.{to_float_is, to_float_zero}
 use Rattle.arith.proofs.to_float.Goals as goal

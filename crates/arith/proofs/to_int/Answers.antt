@@ -1,7 +1,6 @@
 use mathlib.Core.Path.{sym, ap, ◌∙◌}
 use native.Mathlib.Omega.{arith}
 use mathlib.Core.Option.{some}
-use borrow.Author.Rules.{rules}
 use Rattle.arith.specs.Cuts.{cut}
 use Rattle.arith.proofs.Cutting.{below_one, whole_part, beyond, lowest}
 use Rattle.arith.proofs.to_int.Goals as goal

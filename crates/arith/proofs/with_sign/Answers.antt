@@ -1,6 +1,5 @@
 use mathlib.Core.Path.{sym}
 use native.Mathlib.Omega.{arith}
-use borrow.Author.Rules.{rules}
 use Rattle.arith.proofs.Ints.{signed_yes, signed_no}
 use Rattle.arith.proofs.with_sign.Goals as goal
 

@@ -1,10 +1,9 @@
-use mathlib.Core.Path.{◌≡◌, refl, ◌∙◌}
-use Prim.Native.Nat.{ℕ, ◌<◌}
+use mathlib.Core.Path.{refl}
+use Prim.Native.Nat.{◌<◌}
 use native.Mathlib.Omega.{arith}
 use Rattle.engine.specs.Outcomes.{cycle_table}
 use Rattle.engine.proofs.Imaging.{placed_of}
 use Rattle.engine.proofs.Opening.{bytes_of, words_of, laid_out, an_image, long_enough, some_ruleset, under, ran_over, last_small, answered}
-use borrow.Author.Rules.{rules}
 use Rattle.engine.proofs.run_accepted.Goals as goal
 
 pub layout-table-requires : goal.layout-table-requires

@@ -1,11 +1,7 @@
-use mathlib.Core.Path.{◌≡◌, sym}
-use mathlib.Core.Bool.{true}
-use Prim.Native.Nat.{ℕ, ◌-◌, ◌≤◌, ◌<◌}
+use mathlib.Core.Path.{sym}
 use native.Mathlib.Omega.{arith}
 use borrow.Author.Count.{below_none, below_more}
-use lib.ListN.{get_or}
-use Rattle.gate.proofs.Lent.{entry_ok, card_long, card_out, card_in, entry_low, entry_high, entry_in}
-use borrow.Author.Rules.{rules}
+use Rattle.gate.proofs.Lent.{card_long, card_out, card_in, entry_low, entry_high, entry_in}
 use Rattle.gate.proofs.card_ok.Goals as goal
 
 pub returns-then-card-ne40 : goal.returns-then-card-ne40

@@ -1,11 +1,8 @@
-use mathlib.Core.Path.{◌≡◌, sym}
+use mathlib.Core.Path.{◌≡◌}
 use mathlib.Core.Bool.{true}
 use Prim.Native.Nat.{ℕ, ◌-◌, ◌≤◌, ◌<◌}
-use native.Mathlib.Omega.{arith}
-use borrow.Author.Count.{below_none, below_more}
 use lib.ListN.{get_or}
-use Rattle.gate.proofs.Lent.{entry_ok, card_long, card_out, card_in, entry_low, entry_high, entry_in}
-use borrow.Author.Rules.{rules}
+use Rattle.gate.proofs.Lent.{entry_ok}
 use Rattle.gate.proofs.card_ok.Given as goal
 
 abbrev pub invariant-loop-i : goal.invariant-loop-i

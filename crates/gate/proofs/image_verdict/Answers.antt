@@ -5,7 +5,6 @@ use Rattle.gate.specs.Verdicts.{number}
 use Rattle.hume.specs.Image.{program}
 use Rattle.gate.proofs.Tests.{unless_both}
 use Rattle.gate.proofs.Rulesets.{counted, version_out, version_in, refused_length, refused_version, refused_counts, refused_code}
-use borrow.Author.Rules.{rules}
 use Rattle.gate.proofs.image_verdict.Goals as goal
 
 pub returns-then-not-length_ok : goal.returns-then-not-length_ok

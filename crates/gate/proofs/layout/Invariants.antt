@@ -1,11 +1,7 @@
-use mathlib.Core.Path.{◌≡◌, refl, ◌∙◌}
+use mathlib.Core.Path.{◌≡◌}
 use Prim.Native.Nat.{ℕ, ◌+◌, ◌-◌, ◌*◌, ◌≤◌, ◌<◌}
-use native.Mathlib.Omega.{arith}
-use borrow.Author.Count.{below_none, below_more}
-use lib.ListN.{length, get_or, set, length-set}
-use lib.Seq.{get_or-set_same}
+use lib.ListN.{length, get_or}
 use Rattle.hume.specs.Image.{program, ruleset_at, order_at}
-use Rattle.gate.proofs.Rulesets.{ruleset_next, count_is, order_next, entry_more}
 use Rattle.gate.proofs.layout.Given as goal
 
 abbrev pub invariant-loop-k : goal.invariant-loop-k

@@ -2,7 +2,6 @@ use mathlib.Core.Path.{refl, ◌∙◌}
 use Rattle.gate.specs.Verdicts.{number}
 use Rattle.hume.specs.Call.{lent_refusal}
 use Rattle.gate.proofs.Tests.{unless_both}
-use borrow.Author.Rules.{rules}
 use Rattle.gate.proofs.lent_verdict.Goals as goal
 
 pub returns : goal.returns

@@ -1,5 +1,4 @@
 use Rattle.engine.specs.Reports.{detail_number}
-use borrow.Author.Rules.{rules}
 use Rattle.host.proofs.detail_of.Goals as goal
 
 pub returns-in-Finished : goal.returns-in-Finished

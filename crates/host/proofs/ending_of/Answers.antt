@@ -1,5 +1,4 @@
 use Rattle.engine.specs.Reports.{ending_number}
-use borrow.Author.Rules.{rules}
 use Rattle.host.proofs.ending_of.Goals as goal
 
 pub returns-in-Finished : goal.returns-in-Finished

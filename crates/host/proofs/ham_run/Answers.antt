@@ -1,6 +1,5 @@
 use mathlib.Core.Path.{◌∙◌}
 use Rattle.host.proofs.Writing.{refusal_told, stack_told, heap_told, wires_told, order_told, recorded_told}
-use borrow.Author.Rules.{rules}
 use Rattle.host.proofs.ham_run.Goals as goal
 
 pub returns : goal.returns

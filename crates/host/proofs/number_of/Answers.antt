@@ -1,5 +1,4 @@
 use Rattle.gate.specs.Verdicts.{number}
-use borrow.Author.Rules.{rules}
 use Rattle.host.proofs.number_of.Goals as goal
 
 pub returns-in-Accepted : goal.returns-in-Accepted

@@ -1,6 +1,5 @@
 use mathlib.Core.Path.{sym, ◌∙◌}
 use Rattle.host.proofs.Writing.{refused, chained}
-use borrow.Author.Rules.{rules}
 use Rattle.host.proofs.tell.Goals as goal
 
 pub returns-then-n-ne0 : goal.returns-then-n-ne0

@@ -2,7 +2,6 @@ use mathlib.Core.Path.{refl, sym, ◌∙◌}
 use native.Mathlib.Omega.{arith}
 use lib.Seq.{length-take-le}
 use Rattle.sheet.proofs.Needing.{rest_is, opening_needed, huge_needed, image_needed, both_needed}
-use borrow.Author.Rules.{rules}
 use Rattle.sheet.proofs.needed.Goals as goal
 
 pub returns-then-input-lt4 : goal.returns-then-input-lt4

@@ -4,7 +4,6 @@ use lib.Seq.{length-take-le}
 use Rattle.sheet.proofs.Lines.{retold}
 use Rattle.sheet.proofs.Needing.{rest_is}
 use Rattle.sheet.proofs.Deciding.{no_length, too_long, cut_short, read_parts}
-use borrow.Author.Rules.{rules}
 use Rattle.sheet.proofs.print.Goals as goal
 
 pub returns-then-input-lt4 : goal.returns-then-input-lt4

@@ -1,7 +1,6 @@
 use mathlib.Core.Path.{◌∙◌}
 use Rattle.sheet.proofs.Lines.{retold}
 use Rattle.sheet.proofs.Deciding.{image_refused}
-use borrow.Author.Rules.{rules}
 use Rattle.sheet.proofs.print_parts.Goals as goal
 
 pub returns-then-n-ne0 : goal.returns-then-n-ne0

@@ -2,7 +2,6 @@ use mathlib.Core.Path.{sym, ◌∙◌}
 use borrow.Author.Tests.{not-true, not-false}
 use Rattle.sheet.proofs.Lines.{retold}
 use Rattle.sheet.proofs.Deciding.{sheet_refused, call_refused, call_figures}
-use borrow.Author.Rules.{rules}
 use Rattle.sheet.proofs.print_sheet.Goals as goal
 
 pub returns-then-not-sheet_ok : goal.returns-then-not-sheet_ok

@@ -3,7 +3,6 @@ use mathlib.Core.List.{[]}
 use native.Mathlib.Omega.{arith}
 use lib.Seq.{length-take-le}
 use Rattle.sheet.proofs.Giving.{inputs_most, wires_within, sheet_given_lem, same_refusal, same_figures}
-use borrow.Author.Rules.{rules}
 use Rattle.sheet.proofs.run_sheet.Goals as goal
 
 pub words-requires-2 : goal.words-requires-2

@@ -1,7 +1,6 @@
 use native.Mathlib.Omega.{arith}
 use Rattle.hume.specs.Image.{program}
 use Rattle.hume.specs.Sheet.{sheet_length}
-use borrow.Author.Rules.{rules}
 use Rattle.sheet.proofs.sheet_length.Goals as goal
 
 pub returns : goal.returns

@@ -1,7 +1,6 @@
 use mathlib.Core.Path.{sym, ◌∙◌}
 use native.Mathlib.Omega.{arith}
 use Rattle.sheet.proofs.Needing.{none_needed, word_needed, wrong_found, right_found}
-use borrow.Author.Rules.{rules}
 use Rattle.sheet.proofs.sheet_needed.Goals as goal
 
 pub returns-then-number_of-ne0 : goal.returns-then-number_of-ne0

@@ -1,5 +1,4 @@
 use Rattle.sheet.proofs.Needing.{ok_short, ok_length, ok_version}
-use borrow.Author.Rules.{rules}
 use Rattle.sheet.proofs.sheet_ok.Goals as goal
 
 pub returns-then-full_at-long : goal.returns-then-full_at-long

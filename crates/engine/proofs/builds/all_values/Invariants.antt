@@ -1,15 +1,11 @@
-use mathlib.Core.Path.{◌≡◌, sym, ◌∙◌, ap}
+use mathlib.Core.Path.{◌≡◌}
 use mathlib.Core.List.{List}
-use native.Mathlib.Omega.{arith}
-use borrow.Author.Rules.{rules}
-use borrow.Author.Tests.{not-true, not-false}
-use Prim.Native.Nat.{ℕ, ◌-◌, ◌≤◌}
+use Prim.Native.Nat.{◌-◌, ◌≤◌}
 use lib.ListN.{length}
 use Rattle.hume.specs.Words.{Word, is_value}
 use Rattle.hume.specs.Tests.{all}
 use Rattle.hume.specs.State.{downward}
 use Rattle.engine.specs.Turns.{Bears, Smalls}
-use Rattle.engine.proofs.Building.{bears_below, small_below, values_stop, values_more, values_end}
 use Rattle.engine.proofs.builds.all_values.Given as goal
 
 abbrev pub invariant-loop-i : goal.invariant-loop-i

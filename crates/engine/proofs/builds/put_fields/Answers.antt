@@ -1,7 +1,5 @@
 use mathlib.Core.Path.{refl}
 use native.Mathlib.Omega.{arith}
-use Prim.Native.Nat.{◌-◌, ◌≤◌}
-use Rattle.engine.specs.Blocks.{Placed, from_top}
 use Rattle.engine.proofs.Building.{placed_none, placed_more, placed_all_lem}
 use Rattle.engine.proofs.builds.put_fields.Goals as goal
 

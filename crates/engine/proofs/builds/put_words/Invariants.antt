@@ -1,8 +1,5 @@
-use mathlib.Core.Path.{refl}
-use native.Mathlib.Omega.{arith}
 use Prim.Native.Nat.{◌-◌, ◌≤◌}
 use Rattle.engine.specs.Blocks.{Placed, from_place}
-use Rattle.engine.proofs.Building.{placed_none, placed_more, placed_all_lem}
 use Rattle.engine.proofs.builds.put_words.Given as goal
 
 abbrev pub invariant-loop-i : goal.invariant-loop-i

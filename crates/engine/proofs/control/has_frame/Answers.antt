@@ -1,5 +1,4 @@
 use Rattle.engine.proofs.Steering.{framed_low, framed_no_ret, framed_no_rules, framed_no_static, framed_link}
-use borrow.Author.Rules.{rules}
 use Rattle.engine.proofs.control.has_frame.Goals as goal
 
 pub returns-then-fp-lt4 : goal.returns-then-fp-lt4

@@ -1,5 +1,4 @@
 use Rattle.engine.proofs.Steering.{locals_none, locals_read}
-use borrow.Author.Rules.{rules}
 use Rattle.engine.proofs.control.locals_end.Goals as goal
 
 pub returns-then-fp-eq0 : goal.returns-then-fp-eq0

@@ -1,7 +1,6 @@
 use Rattle.engine.proofs.Imaging.{place_room, count_at}
 use native.Mathlib.Omega.{arith}
 use mathlib.Core.Path.{◌∙◌}
-use borrow.Author.Rules.{rules}
 use Rattle.engine.proofs.image.count_of.Goals as goal
 
 pub overflow_add-at : goal.overflow_add-at

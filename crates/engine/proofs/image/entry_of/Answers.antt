@@ -1,7 +1,6 @@
 use Rattle.engine.proofs.Imaging.{place_room, entry_at, entry_small}
 use native.Mathlib.Omega.{arith}
 use mathlib.Core.Path.{◌∙◌}
-use borrow.Author.Rules.{rules}
 use Rattle.engine.proofs.image.entry_of.Goals as goal
 
 pub half-requires : goal.half-requires

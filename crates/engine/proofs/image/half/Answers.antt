@@ -1,6 +1,5 @@
 use Rattle.hume.specs.Image.{half, byte}
 use native.Mathlib.Omega.{arith}
-use borrow.Author.Rules.{rules}
 use Rattle.engine.proofs.image.half.Goals as goal
 
 pub returns : goal.returns

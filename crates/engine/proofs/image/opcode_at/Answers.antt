@@ -1,7 +1,6 @@
 use Rattle.engine.proofs.Imaging.{code_room, opcode_is}
 use native.Mathlib.Omega.{arith}
 use mathlib.Core.Path.{◌∙◌}
-use borrow.Author.Rules.{rules}
 use Rattle.engine.proofs.image.opcode_at.Goals as goal
 
 pub overflow_add-code : goal.overflow_add-code

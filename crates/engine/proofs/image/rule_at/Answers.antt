@@ -2,7 +2,6 @@ use Rattle.engine.proofs.Imaging.{placed_of, place_room, orders_room, orders_sma
 use Rattle.laws.proofs.Orders.{order_small}
 use native.Mathlib.Omega.{arith}
 use mathlib.Core.Path.{◌∙◌}
-use borrow.Author.Rules.{rules}
 use Rattle.engine.proofs.image.rule_at.Goals as goal
 
 pub overflow_add-o : goal.overflow_add-o

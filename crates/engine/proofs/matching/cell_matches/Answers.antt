@@ -1,6 +1,5 @@
 use Rattle.engine.proofs.Trying.{seeks_other, seeks_header, seeks_any, seeks_second}
 use native.Mathlib.Omega.{arith}
-use borrow.Author.Rules.{rules}
 use Rattle.engine.proofs.matching.cell_matches.Goals as goal
 
 pub returns-then-w-ne1 : goal.returns-then-w-ne1

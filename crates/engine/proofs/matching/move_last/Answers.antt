@@ -1,9 +1,8 @@
-use Rattle.engine.proofs.Trying.{shifted, shift_none, shift_more, shift_last}
-use borrow.Author.Rules.{rules}
-use lib.ListN.{length, set, get_or, length-set}
+use Rattle.engine.proofs.Trying.{shift_none, shift_more, shift_last}
+use lib.ListN.{set, get_or, length-set}
 use native.Mathlib.Omega.{arith}
-use Prim.Native.Nat.{◌+◌, ◌-◌, ◌≤◌, ◌<◌}
-use mathlib.Core.Path.{◌≡◌, refl, ap, ◌∙◌}
+use Prim.Native.Nat.{◌+◌}
+use mathlib.Core.Path.{refl, ap, ◌∙◌}
 use Rattle.engine.proofs.matching.move_last.Goals as goal
 
 pub loop-k-init : goal.loop-k-init

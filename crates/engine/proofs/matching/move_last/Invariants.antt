@@ -1,9 +1,7 @@
-use Rattle.engine.proofs.Trying.{shifted, shift_none, shift_more, shift_last}
-use borrow.Author.Rules.{rules}
-use lib.ListN.{length, set, get_or, length-set}
-use native.Mathlib.Omega.{arith}
-use Prim.Native.Nat.{◌+◌, ◌-◌, ◌≤◌, ◌<◌}
-use mathlib.Core.Path.{◌≡◌, refl, ap, ◌∙◌}
+use Rattle.engine.proofs.Trying.{shifted}
+use lib.ListN.{length}
+use Prim.Native.Nat.{◌-◌, ◌≤◌, ◌<◌}
+use mathlib.Core.Path.{◌≡◌}
 use Rattle.engine.proofs.matching.move_last.Given as goal
 
 abbrev pub invariant-loop-k : goal.invariant-loop-k

@@ -1,9 +1,8 @@
 use mathlib.Core.Path.{◌≡◌, refl, sym, ap, ◌∙◌}
-use Prim.Native.Nat.{ℕ, ◌+◌, ◌-◌, ◌≤◌}
+use Prim.Native.Nat.{ℕ, ◌+◌, ◌-◌}
 use native.Mathlib.Omega.{arith}
 use lib.ListN.{length, set, replicate, length-set}
 use lib.Seq.{sets}
-use borrow.Author.Rules.{rules}
 use Rattle.engine.proofs.Stores.{sets_next, sets_none}
 use Rattle.engine.proofs.moves.blank.Goals as goal
 

@@ -1,10 +1,7 @@
-use mathlib.Core.Path.{◌≡◌, refl, ◌∙◌}
-use Prim.Native.Nat.{◌+◌, ◌-◌, ◌*◌, ◌≤◌}
+use mathlib.Core.Path.{refl, ◌∙◌}
 use native.Mathlib.Omega.{arith}
 use lib.ListN.{length, length-set}
-use Rattle.engine.specs.Copies.{BlockHere}
-use Rattle.engine.proofs.Copying.{Filling, cell_inside, cell_inside_2, cell_none, cell_two, cell_atom, cell_block, cell_placed, block_inside, block_many, block_done, fill_none, fill_top, fill_cell, fill_next}
-use Prim.Native.Nat.{ℕ, ◌<◌}
+use Rattle.engine.proofs.Copying.{cell_inside, cell_inside_2, cell_none, cell_two, cell_atom, cell_block, cell_placed, block_inside, block_many, block_done, fill_none, fill_top, fill_cell, fill_next}
 use Rattle.engine.proofs.placing.+place_block_place_cell.Goals as goal
 
 pub place_block-overflow_add-n : goal.place_block-overflow_add-n

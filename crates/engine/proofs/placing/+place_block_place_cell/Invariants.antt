@@ -1,10 +1,8 @@
-use mathlib.Core.Path.{◌≡◌, refl, ◌∙◌}
+use mathlib.Core.Path.{◌≡◌}
 use Prim.Native.Nat.{◌+◌, ◌-◌, ◌*◌, ◌≤◌}
-use native.Mathlib.Omega.{arith}
-use lib.ListN.{length, length-set}
+use lib.ListN.{length}
 use Rattle.engine.specs.Copies.{BlockHere}
-use Rattle.engine.proofs.Copying.{Filling, cell_inside, cell_inside_2, cell_none, cell_two, cell_atom, cell_block, cell_placed, block_inside, block_many, block_done, fill_none, fill_top, fill_cell, fill_next}
-use Prim.Native.Nat.{ℕ, ◌<◌}
+use Rattle.engine.proofs.Copying.{Filling}
 use Rattle.engine.proofs.placing.+place_block_place_cell.Given as goal
 
 abbrev pub decreases-place_block : goal.decreases-place_block

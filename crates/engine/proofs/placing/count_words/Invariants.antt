@@ -1,9 +1,7 @@
 use mathlib.Core.Path.{◌≡◌}
 use Prim.Native.Nat.{◌+◌, ◌-◌, ◌≤◌}
-use native.Mathlib.Omega.{arith}
 use lib.ListN.{take, drop}
 use Rattle.laws.specs.Sizes.{heads}
-use Rattle.engine.proofs.Copying.{count_none, count_cell, count_end}
 use Rattle.engine.proofs.placing.count_words.Given as goal
 
 abbrev pub invariant-loop-i : goal.invariant-loop-i

@@ -1,8 +1,6 @@
 use mathlib.Core.Path.{◌≡◌, refl}
-use Prim.Native.Nat.{◌-◌, ◌≤◌}
 use native.Mathlib.Omega.{arith}
-use lib.ListN.{length, take, drop, length-set}
-use lib.Seq.{sets}
+use lib.ListN.{length-set}
 use Rattle.engine.proofs.Laying.{moved_next, moved_there}
 use Rattle.engine.proofs.placing.move_down.Goals as goal
 

@@ -1,9 +1,7 @@
-use mathlib.Core.Path.{◌≡◌, refl}
+use mathlib.Core.Path.{◌≡◌}
 use Prim.Native.Nat.{◌-◌, ◌≤◌}
-use native.Mathlib.Omega.{arith}
-use lib.ListN.{length, take, drop, length-set}
+use lib.ListN.{length, take, drop}
 use lib.Seq.{sets}
-use Rattle.engine.proofs.Laying.{moved_next, moved_there}
 use Rattle.engine.proofs.placing.move_down.Given as goal
 
 abbrev pub invariant-loop-j : goal.invariant-loop-j

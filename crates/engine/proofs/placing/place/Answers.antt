@@ -1,7 +1,6 @@
 use mathlib.Core.Path.{refl}
 use native.Mathlib.Omega.{arith}
 use Rattle.engine.proofs.Copying.{cell_inside, cell_inside_2, cell_none, cell_two, cell_atom, cell_block, cell_placed, value_placed}
-use borrow.Author.Rules.{rules}
 use Rattle.engine.proofs.placing.place.Goals as goal
 
 pub offset_bounds-wires-i : goal.offset_bounds-wires-i

@@ -1,6 +1,5 @@
 use native.Mathlib.Omega.{arith}
 use lib.ListN.{length-set}
-use borrow.Author.Rules.{rules}
 use Rattle.engine.proofs.placing.put_pair.Goals as goal
 
 pub bounds-to-j-2 : goal.bounds-to-j-2

@@ -1,6 +1,5 @@
 use mathlib.Core.Path.{◌∙◌}
 use Rattle.engine.proofs.Yielding.{and_yes, and_no}
-use borrow.Author.Rules.{rules}
 use Rattle.engine.proofs.prims.both.Goals as goal
 
 pub returns-then-x-eq1 : goal.returns-then-x-eq1

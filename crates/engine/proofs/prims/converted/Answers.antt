@@ -2,7 +2,6 @@ use borrow.Author.Tests.{eq-eqb, ne_eqb}
 use Rattle.hume.specs.Tests.{pick}
 use Rattle.arith.specs.Cuts.{cut}
 use Rattle.engine.specs.Outcomes.{cutting}
-use borrow.Author.Rules.{rules}
 use Rattle.engine.proofs.prims.converted.Goals as goal
 
 pub returns-then-h-ne196608 : goal.returns-then-h-ne196608

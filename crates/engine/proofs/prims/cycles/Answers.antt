@@ -1,6 +1,5 @@
 use native.Mathlib.Omega.{arith}
 use Rattle.engine.proofs.Yielding.{cycles_length, cycles_one, cycles_two}
-use borrow.Author.Rules.{rules}
 use Rattle.engine.proofs.prims.cycles.Goals as goal
 
 pub overflow_sub-result : goal.overflow_sub-result

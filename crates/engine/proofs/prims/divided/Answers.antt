@@ -1,7 +1,6 @@
 use borrow.Author.Tests.{eq-eqb, ne_eqb}
 use Rattle.hume.specs.Tests.{pick}
 use Rattle.engine.specs.Outcomes.{quotient}
-use borrow.Author.Rules.{rules}
 use Rattle.engine.proofs.prims.divided.Goals as goal
 
 pub returns-then-h-ne131072 : goal.returns-then-h-ne131072

@@ -1,6 +1,5 @@
 use mathlib.Core.Path.{◌∙◌}
 use Rattle.engine.proofs.Yielding.{or_yes, or_no}
-use borrow.Author.Rules.{rules}
 use Rattle.engine.proofs.prims.either.Goals as goal
 
 pub returns-then-x-eq1 : goal.returns-then-x-eq1

@@ -1,7 +1,6 @@
 use borrow.Author.Tests.{eq-eqb, ne_eqb}
 use Rattle.hume.specs.Tests.{pick}
 use Rattle.engine.specs.Outcomes.{kept}
-use borrow.Author.Rules.{rules}
 use Rattle.engine.proofs.prims.keep.Goals as goal
 
 pub returns-then-h-k : goal.returns-then-h-k

@@ -2,8 +2,7 @@ use mathlib.Core.Path.{refl, ◌∙◌, ap}
 use native.Mathlib.Omega.{arith}
 use Rattle.hume.specs.Numbers.{div_int, mod_int}
 use Rattle.hume.specs.Primitives.{truth, prim2, two_operands}
-use Rattle.engine.proofs.Yielding.{arm, arm_divided, arm_none, first_two, beyond_two, avoids}
-use borrow.Author.Rules.{rules}
+use Rattle.engine.proofs.Yielding.{arm, arm_divided, arm_none, first_two, beyond_two}
 use Rattle.engine.proofs.prims.pair.Goals as goal
 
 pub returns-in-2 : goal.returns-in-2

@@ -1,8 +1,7 @@
 use mathlib.Core.Path.{refl, ap}
 use native.Mathlib.Omega.{arith}
 use Rattle.hume.specs.Primitives.{prim1, one_operand, is_true}
-use Rattle.engine.proofs.Yielding.{arm, arm_cut, arm_none, first_one, beyond_one, avoids}
-use borrow.Author.Rules.{rules}
+use Rattle.engine.proofs.Yielding.{arm, arm_cut, arm_none, first_one, beyond_one}
 use Rattle.engine.proofs.prims.prim1.Goals as goal
 
 pub returns-in-2 : goal.returns-in-2

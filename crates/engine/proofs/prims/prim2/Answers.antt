@@ -1,6 +1,5 @@
 use mathlib.Core.Path.{◌∙◌}
 use Rattle.engine.proofs.Yielding.{unlike, alike}
-use borrow.Author.Rules.{rules}
 use Rattle.engine.proofs.prims.prim2.Goals as goal
 
 pub returns-then-h0-h1 : goal.returns-then-h0-h1

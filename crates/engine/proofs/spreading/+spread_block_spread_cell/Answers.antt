@@ -1,11 +1,9 @@
-use mathlib.Core.Path.{◌≡◌, refl, ◌∙◌}
-use mathlib.Core.List.{List}
-use Prim.Native.Nat.{ℕ, ◌+◌, ◌-◌, ◌*◌, ◌≤◌, ◌<◌}
+use mathlib.Core.Path.{refl, ◌∙◌}
+use Prim.Native.Nat.{◌+◌, ◌-◌}
 use native.Mathlib.Omega.{arith}
 use native.Mathlib.Nat.{ne_of_gt}
-use lib.ListN.{length, get_or, set, length-set}
-use Rattle.engine.specs.Copies.{Readable}
-use Rattle.engine.proofs.Reading.{reads_ref, reads_inside, reads_fields, reads_first, fields_inside, spread_least, none_over, none_spread, two_over, atom_spread, Partly, partly_none, partly_all, partly_over, partly_more}
+use lib.ListN.{length-set}
+use Rattle.engine.proofs.Reading.{reads_ref, reads_inside, reads_fields, reads_first, fields_inside, spread_least, none_over, none_spread, two_over, atom_spread, partly_none, partly_all, partly_over, partly_more}
 use Rattle.engine.proofs.spreading.+spread_block_spread_cell.Goals as goal
 
 pub spread_block-overflow_sub-p : goal.spread_block-overflow_sub-p

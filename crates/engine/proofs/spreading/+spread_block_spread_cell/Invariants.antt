@@ -1,11 +1,9 @@
-use mathlib.Core.Path.{◌≡◌, refl, ◌∙◌}
+use mathlib.Core.Path.{◌≡◌}
 use mathlib.Core.List.{List}
-use Prim.Native.Nat.{ℕ, ◌+◌, ◌-◌, ◌*◌, ◌≤◌, ◌<◌}
-use native.Mathlib.Omega.{arith}
-use native.Mathlib.Nat.{ne_of_gt}
-use lib.ListN.{length, get_or, set, length-set}
+use Prim.Native.Nat.{ℕ, ◌+◌, ◌-◌, ◌*◌, ◌≤◌}
+use lib.ListN.{length, get_or, set}
 use Rattle.engine.specs.Copies.{Readable}
-use Rattle.engine.proofs.Reading.{reads_ref, reads_inside, reads_fields, reads_first, fields_inside, spread_least, none_over, none_spread, two_over, atom_spread, Partly, partly_none, partly_all, partly_over, partly_more}
+use Rattle.engine.proofs.Reading.{Partly}
 use Rattle.engine.proofs.spreading.+spread_block_spread_cell.Given as goal
 
 abbrev pub decreases-spread_block : goal.decreases-spread_block
@@ -14,6 +12,7 @@ decreases-spread_block l = 2 * (l.end - l.at)
 abbrev pub decreases-spread_cell : goal.decreases-spread_cell
 decreases-spread_cell l = 2 * (l.end - l.at) + 1
 
+-- v is what the wires were before the block's first two words
 abbrev pub invariant-spread_block-loop-i : goal.invariant-spread_block-loop-i
 invariant-spread_block-loop-i l = (l.at + 2 ≤ l.out)
     × (l.out ≤ l.end)

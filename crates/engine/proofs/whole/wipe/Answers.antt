@@ -1,10 +1,9 @@
-use mathlib.Core.Path.{◌≡◌, refl, ap, ◌∙◌}
-use Prim.Native.Nat.{ℕ, ◌+◌, ◌-◌, ◌≤◌, ◌<◌}
+use mathlib.Core.Path.{refl, ap, ◌∙◌}
+use Prim.Native.Nat.{ℕ, ◌<◌}
 use native.Mathlib.Omega.{arith}
 use mathlib.Core.List.{List}
 use lib.ListN.{length, set, length-set}
-use borrow.Author.Rules.{rules}
-use Rattle.engine.proofs.Wiping.{cleared, cleared_none, cleared_next, cleared_all}
+use Rattle.engine.proofs.Wiping.{cleared_none, cleared_next, cleared_all}
 use Rattle.engine.proofs.whole.wipe.Goals as goal
 
 pub loop-k-init : goal.loop-k-init

@@ -1,10 +1,7 @@
-use mathlib.Core.Path.{◌≡◌, refl, ap, ◌∙◌}
-use mathlib.Core.List.{List}
-use Prim.Native.Nat.{ℕ, ◌+◌, ◌-◌, ◌≤◌}
-use native.Mathlib.Omega.{arith}
-use lib.ListN.{length, set, replicate, length-set}
-use lib.Seq.{paste, paste-zero}
-use Rattle.engine.proofs.Outputs.{clear_more}
+use mathlib.Core.Path.{◌≡◌}
+use Prim.Native.Nat.{◌-◌, ◌≤◌}
+use lib.ListN.{length, replicate}
+use lib.Seq.{paste}
 use Rattle.engine.proofs.wiring.clear_wire.Given as goal
 
 abbrev pub invariant-loop-i : goal.invariant-loop-i

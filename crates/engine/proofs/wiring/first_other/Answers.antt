@@ -1,9 +1,6 @@
-use Prim.Native.Nat.{ℕ, ◌+◌, ◌-◌, ◌≤◌, ◌<◌}
 use native.Mathlib.Omega.{arith}
 use native.Mathlib.Nat.{not-suc-le-zero}
 use borrow.Author.Count.{below_more}
-use lib.ListN.{get_or}
-use Rattle.engine.specs.Copies.{ValueBits}
 use Rattle.engine.proofs.wiring.first_other.Goals as goal
 
 pub loop-i-init : goal.loop-i-init

@@ -1,9 +1,6 @@
-use mathlib.Core.Logic.{⊎_elim}
-use Prim.Native.Nat.{ℕ, ◌-◌, ◌≤◌, ◌<◌}
 use native.Mathlib.Omega.{arith}
 use native.Mathlib.Nat.{not-suc-le-zero}
 use borrow.Author.Count.{below_more}
-use Rattle.engine.specs.Copies.{Stuck}
 use Rattle.engine.proofs.wiring.first_stuck.Goals as goal
 use Rattle.engine.proofs.wiring.first_stuck.Goals.{then-stack-sp-ne536870912+else-wires-inputs-ne0, else-stack-sp-ne536870912}
 

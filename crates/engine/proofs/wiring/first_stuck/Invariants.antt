@@ -1,8 +1,4 @@
-use mathlib.Core.Logic.{⊎_elim}
 use Prim.Native.Nat.{ℕ, ◌-◌, ◌≤◌, ◌<◌}
-use native.Mathlib.Omega.{arith}
-use native.Mathlib.Nat.{not-suc-le-zero}
-use borrow.Author.Count.{below_more}
 use Rattle.engine.specs.Copies.{Stuck}
 use Rattle.engine.proofs.wiring.first_stuck.Given as goal
 

@@ -5,7 +5,6 @@ use borrow.Author.Tests.{not-true, not-false}
 use Rattle.hume.specs.Words.{is_value}
 use Rattle.engine.proofs.Reading.{spread_some}
 use Rattle.engine.proofs.Writing.{wire_inside, wire_back, offered_reads, room_other, room_none, room_full, room_over, room_fits, put_none, spread_long, spread_few, spread_put}
-use borrow.Author.Rules.{rules}
 use Rattle.engine.proofs.wiring.room_for.Goals as goal
 
 pub returns-then-not-is_value : goal.returns-then-not-is_value

@@ -1,6 +1,5 @@
 use mathlib.Core.Path.{sym, ◌∙◌}
 use Rattle.engine.proofs.WordKinds.{plain_null, plain_else}
-use borrow.Author.Rules.{rules}
 use Rattle.engine.proofs.words.is_plain.Goals as goal
 
 pub returns-then-w-eq0 : goal.returns-then-w-eq0

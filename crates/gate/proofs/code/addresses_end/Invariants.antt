@@ -1,13 +1,8 @@
-use mathlib.Core.Path.{◌≡◌, refl, sym, ap, ◌∙◌}
+use mathlib.Core.Path.{◌≡◌}
 use mathlib.Core.Bool.{true}
 use Prim.Native.Nat.{ℕ, ◌+◌, ◌-◌, ◌*◌, ◌≤◌, ◌<◌}
-use native.Mathlib.Omega.{arith}
-use borrow.Author.Count.{below_none, below_more}
-use borrow.Author.Tests.{not-true, not-false}
 use Rattle.hume.specs.Image.{program, ruleset_at}
 use Rattle.hume.specs.Refusals.{ruleset_ok}
-use Rattle.gate.proofs.Tests.{every_yes, every_no, place_found, place_lost}
-use Rattle.gate.proofs.Rulesets.{ruleset_next, entry_out, rules_are}
 use Rattle.gate.proofs.code.addresses_end.Given as goal
 
 abbrev pub invariant-loop-r : goal.invariant-loop-r

@@ -5,7 +5,6 @@ use Rattle.hume.specs.Image.{program}
 use Rattle.hume.specs.Refusals.{instruction_ok, last_ok, code_ok}
 use Rattle.gate.proofs.Tests.{and_yes, and_no, found_place, lost_place}
 use Rattle.gate.proofs.Rulesets.{ruleset_some}
-use borrow.Author.Rules.{rules}
 use Rattle.gate.proofs.code.code_ok.Goals as goal
 
 pub returns-then-start-eq0 : goal.returns-then-start-eq0

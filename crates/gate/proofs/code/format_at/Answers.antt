@@ -1,5 +1,4 @@
 use Rattle.gate.proofs.Instructions.{formats}
-use borrow.Author.Rules.{rules}
 use Rattle.gate.proofs.code.format_at.Goals as goal
 
 pub returns : goal.returns

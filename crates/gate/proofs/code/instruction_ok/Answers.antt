@@ -2,7 +2,6 @@ use mathlib.Core.Path.{refl, sym, ◌∙◌}
 use native.Mathlib.Omega.{arith}
 use borrow.Author.Tests.{not-true, not-false}
 use Rattle.gate.proofs.Instructions.{fields_read, opcode_low, opcode_high, first_out, second_out, third_is}
-use borrow.Author.Rules.{rules}
 use Rattle.gate.proofs.code.instruction_ok.Goals as goal
 
 pub returns-then-op-lt1 : goal.returns-then-op-lt1

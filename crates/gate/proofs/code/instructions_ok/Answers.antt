@@ -1,11 +1,10 @@
-use mathlib.Core.Path.{◌≡◌, sym, ap, ◌∙◌}
-use mathlib.Core.Bool.{true}
-use Prim.Native.Nat.{ℕ, ◌-◌, ◌≤◌, ◌<◌}
+use mathlib.Core.Path.{sym, ap, ◌∙◌}
+use Prim.Native.Nat.{◌≤◌, ◌<◌}
 use native.Mathlib.Omega.{arith}
 use borrow.Author.Count.{below_none, below_more}
 use borrow.Author.Tests.{not-true, not-false}
 use Rattle.hume.specs.Image.{program}
-use Rattle.hume.specs.Refusals.{instruction_ok, last_ok}
+use Rattle.hume.specs.Refusals.{last_ok}
 use Rattle.gate.specs.Parts.{ends_ok}
 use Rattle.gate.proofs.Tests.{every_yes, every_no, and_yes, and_no}
 use Rattle.gate.proofs.Instructions.{instruction_is, last_is}

@@ -1,14 +1,8 @@
-use mathlib.Core.Path.{◌≡◌, sym, ap, ◌∙◌}
+use mathlib.Core.Path.{◌≡◌}
 use mathlib.Core.Bool.{true}
 use Prim.Native.Nat.{ℕ, ◌-◌, ◌≤◌, ◌<◌}
-use native.Mathlib.Omega.{arith}
-use borrow.Author.Count.{below_none, below_more}
-use borrow.Author.Tests.{not-true, not-false}
 use Rattle.hume.specs.Image.{program}
-use Rattle.hume.specs.Refusals.{instruction_ok, last_ok}
-use Rattle.gate.specs.Parts.{ends_ok}
-use Rattle.gate.proofs.Tests.{every_yes, every_no, and_yes, and_no}
-use Rattle.gate.proofs.Instructions.{instruction_is, last_is}
+use Rattle.hume.specs.Refusals.{instruction_ok}
 use Rattle.gate.proofs.code.instructions_ok.Given as goal
 
 abbrev pub invariant-loop-k : goal.invariant-loop-k

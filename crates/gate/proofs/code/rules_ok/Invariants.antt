@@ -1,13 +1,8 @@
-use mathlib.Core.Path.{◌≡◌, sym}
+use mathlib.Core.Path.{◌≡◌}
 use mathlib.Core.Bool.{true}
 use Prim.Native.Nat.{ℕ, ◌+◌, ◌-◌, ◌*◌, ◌≤◌, ◌<◌}
-use native.Mathlib.Omega.{arith}
-use borrow.Author.Count.{below_none, below_more}
 use lib.Dec.{ltb}
-use borrow.Author.Tests.{le-ltb, lt-ltb}
 use Rattle.hume.specs.Image.{half}
-use Rattle.gate.specs.Parts.{rules_ok}
-use Rattle.gate.proofs.Tests.{every_yes, every_no}
 use Rattle.gate.proofs.code.rules_ok.Given as goal
 
 abbrev pub invariant-loop-k : goal.invariant-loop-k

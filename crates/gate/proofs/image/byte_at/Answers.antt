@@ -2,7 +2,6 @@ use mathlib.Core.Path.{refl, sym}
 use native.Mathlib.Omega.{arith}
 use lib.ListN.{get_or-eq_default}
 use Rattle.hume.specs.Image.{byte}
-use borrow.Author.Rules.{rules}
 use Rattle.gate.proofs.image.byte_at.Goals as goal
 
 pub overflow_cast-result : goal.overflow_cast-result

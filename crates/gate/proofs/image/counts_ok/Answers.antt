@@ -1,7 +1,6 @@
 use mathlib.Core.Path.{sym, ◌∙◌}
 use borrow.Author.Tests.{not-true, not-false}
 use Rattle.gate.proofs.Rulesets.{counts_out, counts_lost, counts_end_lem, ranges_rulesets}
-use borrow.Author.Rules.{rules}
 use Rattle.gate.proofs.image.counts_ok.Goals as goal
 
 pub returns-then-not-ranges_ok : goal.returns-then-not-ranges_ok

@@ -2,7 +2,6 @@ use Prim.Native.Nat.{◌+◌, ◌*◌}
 use native.Mathlib.Omega.{arith}
 use Rattle.hume.specs.Image.{half}
 use Rattle.gate.proofs.Rulesets.{half_past}
-use borrow.Author.Rules.{rules}
 use Rattle.gate.proofs.image.half_at.Goals as goal
 
 pub returns-then-m-i : goal.returns-then-m-i

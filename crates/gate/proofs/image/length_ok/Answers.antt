@@ -6,7 +6,6 @@ use borrow.Author.Tests.{le-leb, lt-leb}
 use Rattle.hume.specs.Image.{total_length}
 use Rattle.hume.specs.Refusals.{length_ok}
 use Rattle.gate.proofs.Tests.{and_yes}
-use borrow.Author.Rules.{rules}
 use Rattle.gate.proofs.image.length_ok.Goals as goal
 
 pub returns-then-image-ge11 : goal.returns-then-image-ge11

@@ -4,7 +4,6 @@ use lib.Dec.{leb}
 use Rattle.gate.proofs.Tests.{and_no}
 use borrow.Author.Tests.{le-leb, lt-leb}
 use Rattle.gate.specs.Parts.{ranges_ok}
-use borrow.Author.Rules.{rules}
 use Rattle.gate.proofs.image.ranges_ok.Goals as goal
 
 pub returns-then-size-ge1 : goal.returns-then-size-ge1

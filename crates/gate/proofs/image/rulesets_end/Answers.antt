@@ -1,10 +1,7 @@
 use mathlib.Core.Path.{◌≡◌, refl, ap, ◌∙◌}
-use mathlib.Core.Bool.{true}
-use Prim.Native.Nat.{ℕ, ◌+◌, ◌-◌, ◌*◌, ◌≤◌, ◌<◌}
 use native.Mathlib.Omega.{arith}
 use borrow.Author.Count.{below_none, below_more}
-use Rattle.hume.specs.Image.{program, ruleset_at}
-use Rattle.gate.specs.Parts.{count_ok}
+use Rattle.hume.specs.Image.{ruleset_at}
 use Rattle.gate.proofs.Tests.{every_yes, every_no, place_found, place_lost}
 use Rattle.gate.proofs.Rulesets.{ruleset_next, count_in, count_low, count_high}
 use Rattle.gate.proofs.image.rulesets_end.Goals as goal

@@ -1,12 +1,8 @@
-use mathlib.Core.Path.{◌≡◌, refl, ap, ◌∙◌}
+use mathlib.Core.Path.{◌≡◌}
 use mathlib.Core.Bool.{true}
 use Prim.Native.Nat.{ℕ, ◌+◌, ◌-◌, ◌*◌, ◌≤◌, ◌<◌}
-use native.Mathlib.Omega.{arith}
-use borrow.Author.Count.{below_none, below_more}
 use Rattle.hume.specs.Image.{program, ruleset_at}
 use Rattle.gate.specs.Parts.{count_ok}
-use Rattle.gate.proofs.Tests.{every_yes, every_no, place_found, place_lost}
-use Rattle.gate.proofs.Rulesets.{ruleset_next, count_in, count_low, count_high}
 use Rattle.gate.proofs.image.rulesets_end.Given as goal
 
 abbrev pub invariant-loop-r : goal.invariant-loop-r

@@ -1,14 +1,9 @@
-use mathlib.Core.Path.{◌≡◌, sym, ◌∙◌}
-use mathlib.Core.Bool.{true}
-use Prim.Native.Nat.{ℕ, ◌+◌, ◌-◌, ◌≤◌, ◌<◌}
+use mathlib.Core.Path.{sym, ◌∙◌}
 use native.Mathlib.Omega.{arith}
 use borrow.Author.Count.{below_none, below_more}
 use borrow.Author.Tests.{not-true, not-false}
-use lib.ListN.{get_or}
 use Rattle.hume.specs.Image.{program}
-use Rattle.hume.specs.Refusals.{permutation, order_of}
-use Rattle.gate.proofs.Lent.{Part, rulesets_few, whole_order, lent_part, order_long, order_out, order_in}
-use borrow.Author.Rules.{rules}
+use Rattle.gate.proofs.Lent.{rulesets_few, whole_order, lent_part, order_long, order_out, order_in}
 use Rattle.gate.proofs.order.order_ok.Goals as goal
 
 pub byte_at-rulesets-requires : goal.byte_at-rulesets-requires

@@ -1,14 +1,8 @@
-use mathlib.Core.Path.{◌≡◌, sym, ◌∙◌}
+use mathlib.Core.Path.{◌≡◌}
 use mathlib.Core.Bool.{true}
-use Prim.Native.Nat.{ℕ, ◌+◌, ◌-◌, ◌≤◌, ◌<◌}
-use native.Mathlib.Omega.{arith}
-use borrow.Author.Count.{below_none, below_more}
-use borrow.Author.Tests.{not-true, not-false}
-use lib.ListN.{get_or}
+use Prim.Native.Nat.{ℕ, ◌-◌, ◌≤◌, ◌<◌}
 use Rattle.hume.specs.Image.{program}
 use Rattle.hume.specs.Refusals.{permutation, order_of}
-use Rattle.gate.proofs.Lent.{Part, rulesets_few, whole_order, lent_part, order_long, order_out, order_in}
-use borrow.Author.Rules.{rules}
 use Rattle.gate.proofs.order.order_ok.Given as goal
 
 abbrev pub invariant-loop-r : goal.invariant-loop-r

@@ -1,12 +1,10 @@
-use mathlib.Core.Path.{◌≡◌, refl, sym, ◌∙◌}
+use mathlib.Core.Path.{refl, sym, ◌∙◌}
 use mathlib.Core.Bool.{true, false}
-use Prim.Native.Nat.{ℕ, ◌-◌, ◌≤◌, ◌<◌}
 use native.Mathlib.Omega.{arith}
 use borrow.Author.Count.{below_none, below_more}
-use lib.ListN.{length, get_or, take, length-set, get_or-replicate}
+use lib.ListN.{get_or, length-set, get_or-replicate}
 use Rattle.hume.specs.Refusals.{among}
 use Rattle.gate.proofs.Lent.{order_high, order_twice, order_right, seen_more}
-use borrow.Author.Rules.{rules}
 use Rattle.gate.proofs.order.permutation_ok.Goals as goal
 
 pub loop-i-init : goal.loop-i-init

@@ -1,12 +1,8 @@
-use mathlib.Core.Path.{◌≡◌, refl, sym, ◌∙◌}
-use mathlib.Core.Bool.{true, false}
+use mathlib.Core.Path.{◌≡◌}
+use mathlib.Core.Bool.{false}
 use Prim.Native.Nat.{ℕ, ◌-◌, ◌≤◌, ◌<◌}
-use native.Mathlib.Omega.{arith}
-use borrow.Author.Count.{below_none, below_more}
-use lib.ListN.{length, get_or, take, length-set, get_or-replicate}
+use lib.ListN.{length, get_or, take}
 use Rattle.hume.specs.Refusals.{among}
-use Rattle.gate.proofs.Lent.{order_high, order_twice, order_right, seen_more}
-use borrow.Author.Rules.{rules}
 use Rattle.gate.proofs.order.permutation_ok.Given as goal
 
 abbrev pub invariant-loop-i : goal.invariant-loop-i

@@ -1,8 +1,7 @@
 use mathlib.Core.Path.{sym, ◌∙◌, subst}
-use Prim.Native.Nat.{ℕ, ◌<◌, ◌+◌, ◌-◌, ◌*◌}
+use Prim.Native.Nat.{ℕ}
 use native.Mathlib.Omega.{arith}
 use lib.Dec.{T}
-use lib.ListN.{length}
 use Rattle.laws.proofs.Tests.{of_true}
 use Rattle.gate.specs.Cells.{CellEnds}
 use Rattle.gate.proofs.Cells.{past_end, a_none, cut_short, an_atom, a_block, neither, no_field, bad_field, more_fields, moved}

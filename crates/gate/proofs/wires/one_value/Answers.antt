@@ -1,6 +1,5 @@
 use mathlib.Core.Path.{sym}
 use Rattle.gate.proofs.Cells.{no_words, only_none, value_ends}
-use borrow.Author.Rules.{rules}
 use Rattle.gate.proofs.wires.one_value.Goals as goal
 
 pub returns-then-s-eq0 : goal.returns-then-s-eq0

@@ -1,11 +1,9 @@
-use mathlib.Core.Path.{◌≡◌, sym, ◌∙◌}
-use mathlib.Core.Bool.{true}
-use Prim.Native.Nat.{ℕ, ◌+◌, ◌-◌, ◌≤◌, ◌<◌}
+use mathlib.Core.Path.{sym, ◌∙◌}
+use Prim.Native.Nat.{◌+◌}
 use native.Mathlib.Omega.{arith}
 use borrow.Author.Count.{below_none, below_more}
 use borrow.Author.Tests.{not-true, not-false}
 use Rattle.hume.specs.Image.{program}
-use Rattle.hume.specs.Values.{wire_ok}
 use Rattle.gate.proofs.Lent.{wires_long, wires_out, wires_in}
 use Rattle.gate.proofs.wires.wires_ok.Goals as goal
 

@@ -1,13 +1,8 @@
-use mathlib.Core.Path.{◌≡◌, sym}
+use mathlib.Core.Path.{◌≡◌}
 use mathlib.Core.Bool.{true}
 use Prim.Native.Nat.{ℕ, ◌-◌, ◌≤◌, ◌<◌}
-use native.Mathlib.Omega.{arith}
-use borrow.Author.Count.{below_none, below_more}
 use lib.Dec.{eqb}
 use lib.ListN.{length, get_or}
-use borrow.Author.Tests.{eq-eqb, ne_eqb}
-use Rattle.gate.proofs.Tests.{all_yes, all_no}
-use borrow.Author.Rules.{rules}
 use Rattle.gate.proofs.wires.zeros.Given as goal
 
 abbrev pub invariant-loop-i : goal.invariant-loop-i

@@ -1,9 +1,8 @@
 use mathlib.Core.Path.{◌≡◌, refl, ap, ◌∙◌}
 use mathlib.Core.List.{List, ◌++◌}
-use Prim.Native.Nat.{ℕ, ◌+◌, ◌-◌, ◌*◌, ◌≤◌}
+use Prim.Native.Nat.{ℕ, ◌-◌}
 use native.Mathlib.Omega.{arith}
-use borrow.Author.Rules.{rules}
-use lib.ListN.{length, take}
+use lib.ListN.{length}
 use Rattle.hume.specs.Image.{program, byte, ruleset_at}
 use Rattle.hume.specs.Sheet.{counting, first_order}
 use Rattle.gate.proofs.Rulesets.{ruleset_next, count_is}

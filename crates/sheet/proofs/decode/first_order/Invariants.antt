@@ -1,13 +1,8 @@
-use mathlib.Core.Path.{◌≡◌, refl, ap, ◌∙◌}
-use mathlib.Core.List.{List, ◌++◌}
-use Prim.Native.Nat.{ℕ, ◌+◌, ◌-◌, ◌*◌, ◌≤◌}
-use native.Mathlib.Omega.{arith}
-use borrow.Author.Rules.{rules}
+use mathlib.Core.Path.{◌≡◌}
+use Prim.Native.Nat.{◌+◌, ◌-◌, ◌*◌, ◌≤◌}
 use lib.ListN.{length, take}
-use Rattle.hume.specs.Image.{program, byte, ruleset_at}
-use Rattle.hume.specs.Sheet.{counting, first_order}
-use Rattle.gate.proofs.Rulesets.{ruleset_next, count_is}
-use Rattle.sheet.proofs.Decoding.{order_next, order_part, rulesets_most, rules_most}
+use Rattle.hume.specs.Image.{program, ruleset_at}
+use Rattle.hume.specs.Sheet.{first_order}
 use Rattle.sheet.proofs.decode.first_order.Given as goal
 
 abbrev pub invariant-loop-r : goal.invariant-loop-r

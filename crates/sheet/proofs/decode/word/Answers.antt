@@ -1,5 +1,4 @@
 use Rattle.hume.specs.Sheet.{sheet_word}
-use borrow.Author.Rules.{rules}
 use Rattle.sheet.proofs.decode.word.Goals as goal
 
 pub returns : goal.returns

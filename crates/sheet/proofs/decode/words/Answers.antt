@@ -1,9 +1,8 @@
 use mathlib.Core.Path.{◌≡◌, refl, ap, ◌∙◌}
 use mathlib.Core.List.{List, ◌++◌}
-use Prim.Native.Nat.{ℕ, ◌-◌, ◌≤◌}
+use Prim.Native.Nat.{ℕ}
 use native.Mathlib.Omega.{arith}
-use borrow.Author.Rules.{rules}
-use lib.ListN.{length, set, drop, length-set}
+use lib.ListN.{set, drop, length-set}
 use Rattle.hume.specs.Sheet.{sheet_words}
 use Rattle.sheet.proofs.Decoding.{words_next}
 use Rattle.sheet.proofs.decode.words.Goals as goal

@@ -2,7 +2,6 @@ use mathlib.Core.Path.{◌∙◌}
 use native.Mathlib.Omega.{arith}
 use Rattle.sheet.specs.Lines.{figures_in}
 use Rattle.sheet.proofs.Lines.{line_end, kept_both, eight_figures}
-use borrow.Author.Rules.{rules}
 use Rattle.sheet.proofs.line.figures_line.Goals as goal
 
 pub put_figure-requires : goal.put_figure-requires

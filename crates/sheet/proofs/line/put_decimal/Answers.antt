@@ -1,11 +1,9 @@
-use mathlib.Core.Path.{◌≡◌, refl, sym, ap, ◌∙◌}
+use mathlib.Core.Path.{refl, sym, ap, ◌∙◌}
 use mathlib.Core.List.{List}
-use Prim.Native.Nat.{ℕ, ◌+◌, ◌-◌, ◌/◌, ◌%◌, ◌≤◌}
+use Prim.Native.Nat.{ℕ, ◌+◌, ◌-◌, ◌/◌, ◌%◌}
 use native.Mathlib.Omega.{arith}
-use borrow.Author.Rules.{rules}
-use lib.ListN.{length, drop, length-set}
+use lib.ListN.{drop, length-set}
 use Rattle.hume.specs.Sheet.{digits, decimal}
-use Rattle.sheet.specs.Lines.{Kept}
 use Rattle.sheet.proofs.Lines.{put_front, kept_all, kept_front, digits_more, digits_last, digits_none}
 use Rattle.sheet.proofs.line.put_decimal.Goals as goal
 

@@ -3,7 +3,6 @@ use Prim.Native.Nat.{◌-◌}
 use native.Mathlib.Omega.{arith}
 use lib.ListN.{length-set}
 use Rattle.sheet.proofs.Lines.{figure_front}
-use borrow.Author.Rules.{rules}
 use Rattle.sheet.proofs.line.put_figure.Goals as goal
 
 pub put_decimal-requires : goal.put_decimal-requires

@@ -1,11 +1,9 @@
 use mathlib.Core.Path.{◌≡◌, refl, sym, ap, ◌∙◌}
 use mathlib.Core.List.{List, ◌∷◌, ◌++◌}
-use Prim.Native.Nat.{ℕ, ◌+◌, ◌-◌, ◌≤◌}
+use Prim.Native.Nat.{ℕ, ◌-◌}
 use native.Mathlib.Omega.{arith}
-use borrow.Author.Rules.{rules}
-use lib.ListN.{length, get_or, drop, length-set}
+use lib.ListN.{get_or, drop, length-set}
 use lib.Seq.{drop-length}
-use Rattle.sheet.specs.Lines.{Kept}
 use Rattle.sheet.proofs.Lines.{put_front, kept_all, kept_front, text_front}
 use Rattle.sheet.proofs.line.put_text.Goals as goal
 

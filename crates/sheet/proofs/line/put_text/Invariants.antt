@@ -1,12 +1,8 @@
-use mathlib.Core.Path.{◌≡◌, refl, sym, ap, ◌∙◌}
-use mathlib.Core.List.{List, ◌∷◌, ◌++◌}
-use Prim.Native.Nat.{ℕ, ◌+◌, ◌-◌, ◌≤◌}
-use native.Mathlib.Omega.{arith}
-use borrow.Author.Rules.{rules}
-use lib.ListN.{length, get_or, drop, length-set}
-use lib.Seq.{drop-length}
+use mathlib.Core.Path.{◌≡◌}
+use mathlib.Core.List.{◌++◌}
+use Prim.Native.Nat.{◌+◌, ◌≤◌}
+use lib.ListN.{length, drop}
 use Rattle.sheet.specs.Lines.{Kept}
-use Rattle.sheet.proofs.Lines.{put_front, kept_all, kept_front, text_front}
 use Rattle.sheet.proofs.line.put_text.Given as goal
 
 abbrev pub invariant-loop-left : goal.invariant-loop-left

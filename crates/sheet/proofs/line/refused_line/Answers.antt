@@ -1,7 +1,6 @@
 use mathlib.Core.Path.{◌∙◌}
 use native.Mathlib.Omega.{arith}
 use Rattle.sheet.proofs.Lines.{line_end, kept_both, refused_text}
-use borrow.Author.Rules.{rules}
 use Rattle.sheet.proofs.line.refused_line.Goals as goal
 
 pub returns : goal.returns

@@ -2,7 +2,6 @@ use mathlib.Core.Path.{ap}
 use native.Mathlib.Omega.{arith}
 use Prim.Native.Nat.{ℕ, ◌+◌}
 use Rattle.engine.proofs.Yielding.{deal_goes, deal_faults, deals_meet, fault_meets}
-use borrow.Author.Rules.{rules}
 use Rattle.engine.proofs.regs.Regs.apply.Goals as goal
 
 pub try_any-o-requires : goal.try_any-o-requires

@@ -2,7 +2,6 @@ use Rattle.engine.proofs.Trying.{available_none, available_tries}
 use Rattle.engine.specs.Attempts.{faulty, tries}
 use native.Mathlib.Omega.{arith}
 use mathlib.Core.Path.{refl}
-use borrow.Author.Rules.{rules}
 use Rattle.engine.proofs.regs.Regs.available.Goals as goal
 
 pub returns-then-inputs-i : goal.returns-then-inputs-i

@@ -3,7 +3,6 @@ use native.Mathlib.Omega.{arith}
 use lib.ListN.{length-set}
 use Rattle.engine.proofs.Turning.{settle_yes, settle_no, went_on}
 use Rattle.engine.proofs.Steering.{call_leads, call_bears}
-use borrow.Author.Rules.{rules}
 use Rattle.engine.proofs.regs.Regs.call.Goals as goal
 
 pub bounds-stack-sp : goal.bounds-stack-sp

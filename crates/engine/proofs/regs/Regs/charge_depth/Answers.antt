@@ -1,7 +1,5 @@
-use mathlib.Core.Path.{◌≡◌, ◌∙◌}
 use Rattle.engine.specs.Turns.{late, deep}
 use Rattle.engine.proofs.Charges.{pays_deeper, pays_no_deeper}
-use borrow.Author.Rules.{rules}
 use Rattle.engine.proofs.regs.Regs.charge_depth.Goals as goal
 
 pub returns-then-self-cost : goal.returns-then-self-cost

@@ -1,7 +1,6 @@
 use mathlib.Core.Path.{refl}
 use Rattle.engine.proofs.Turning.{settled}
 use Rattle.engine.proofs.Outputs.{check_few, check_other, check_stuck, check_leads}
-use borrow.Author.Rules.{rules}
 use Rattle.engine.proofs.regs.Regs.check_outputs.Goals as goal
 
 pub returns-then-sp-self : goal.returns-then-sp-self

@@ -4,7 +4,6 @@ use borrow.Author.Tests.{not-true, not-false}
 use Prim.Native.Nat.{◌+◌, ◌-◌, ◌<◌}
 use native.Mathlib.Omega.{arith}
 use mathlib.Core.Path.{refl, sym, ◌∙◌}
-use borrow.Author.Rules.{rules}
 use Rattle.engine.proofs.regs.Regs.compare.Goals as goal
 
 pub returns-then-self-k : goal.returns-then-self-k

@@ -1,6 +1,5 @@
 use Rattle.engine.proofs.Trying.{hit_leads, miss_leads, miss_ends, stays}
 use Rattle.engine.proofs.Turning.{settled}
-use borrow.Author.Rules.{rules}
 use Rattle.engine.proofs.regs.Regs.conclude.Goals as goal
 
 pub returns-then-hit : goal.returns-then-hit

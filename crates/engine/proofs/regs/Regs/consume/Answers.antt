@@ -1,7 +1,6 @@
 use mathlib.Core.Path.{refl, ◌∙◌}
 use Rattle.engine.proofs.Turning.{settle_yes, settle_no}
 use Rattle.engine.proofs.Outputs.{cleared, consume_leads}
-use borrow.Author.Rules.{rules}
 use Rattle.engine.proofs.regs.Regs.consume.Goals as goal
 
 pub returns-then-turn : goal.returns-then-turn

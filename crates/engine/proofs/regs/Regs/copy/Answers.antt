@@ -2,7 +2,6 @@ use mathlib.Core.Path.{refl}
 use native.Mathlib.Omega.{arith}
 use Rattle.engine.proofs.Turning.{turned_as, reads_below}
 use Rattle.engine.proofs.Moving.{copy_few, copy_is}
-use borrow.Author.Rules.{rules}
 use Rattle.engine.proofs.regs.Regs.copy.Goals as goal
 
 pub returns-then-sp-self : goal.returns-then-sp-self

@@ -2,7 +2,6 @@ use mathlib.Core.Path.{refl, sym, ◌∙◌}
 use Rattle.engine.proofs.Turning.{turned_as}
 use Rattle.engine.proofs.Moving.{reads_argument, small_argument, copy_arg_low, copy_arg_kind, copy_arg_is}
 use borrow.Author.Tests.{not-true, not-false}
-use borrow.Author.Rules.{rules}
 use Rattle.engine.proofs.regs.Regs.copy_arg.Goals as goal
 
 pub returns-then-fp-a : goal.returns-then-fp-a

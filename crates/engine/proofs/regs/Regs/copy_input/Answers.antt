@@ -5,7 +5,6 @@ use lib.ListN.{length}
 use Rattle.laws.specs.Sizes.{size}
 use Rattle.engine.proofs.Turning.{settle_yes, settle_no, went_on}
 use Rattle.engine.proofs.Copying.{input_at, input_size, input_few, input_here, input_placed, copy_empty, copy_leads, copy_heap, copy_stack}
-use borrow.Author.Rules.{rules}
 use Rattle.engine.proofs.regs.Regs.copy_input.Goals as goal
 
 pub overflow_mul-at : goal.overflow_mul-at

@@ -3,7 +3,6 @@ use native.Mathlib.Omega.{arith}
 use lib.ListN.{length-set}
 use Rattle.engine.proofs.Turning.{settle_yes, settle_no, went_on}
 use Rattle.engine.proofs.Moving.{create_few, create_leads, create_bears}
-use borrow.Author.Rules.{rules}
 use Rattle.engine.proofs.regs.Regs.create_frame.Goals as goal
 
 pub returns-then-sp-self-lt3 : goal.returns-then-sp-self-lt3

@@ -7,7 +7,6 @@ use Rattle.engine.proofs.Turning.{settle_yes, settle_no, went_on}
 use Rattle.engine.proofs.Areas.{bears_push, bears_take}
 use Rattle.engine.proofs.Building.{bears_two, bits_ref}
 use Rattle.engine.proofs.Yielding.{give_leads}
-use borrow.Author.Rules.{rules}
 use Rattle.engine.proofs.regs.Regs.give.Goals as goal
 
 pub bounds-heap-hp : goal.bounds-heap-hp

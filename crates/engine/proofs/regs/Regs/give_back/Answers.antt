@@ -3,7 +3,6 @@ use native.Mathlib.Omega.{arith}
 use borrow.Author.Tests.{not-true, not-false}
 use Rattle.engine.proofs.Turning.{settle_yes, settle_no, reads_below}
 use Rattle.engine.proofs.Steering.{framed_deep, return_few, return_bad, return_leads, return_bears}
-use borrow.Author.Rules.{rules}
 use Rattle.engine.proofs.regs.Regs.give_back.Goals as goal
 
 pub returns-then-sp-self-lt1 : goal.returns-then-sp-self-lt1

@@ -1,7 +1,6 @@
 use mathlib.Core.Path.{refl}
 use Rattle.engine.proofs.Turning.{settled}
 use Rattle.engine.proofs.Steering.{goto_leads}
-use borrow.Author.Rules.{rules}
 use Rattle.engine.proofs.regs.Regs.goto.Goals as goal
 
 pub returns : goal.returns

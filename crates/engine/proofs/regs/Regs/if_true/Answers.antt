@@ -1,11 +1,9 @@
 use mathlib.Core.Path.{refl}
-use mathlib.Core.Logic.{⊎_elim}
 use Prim.Native.Nat.{◌-◌}
 use native.Mathlib.Omega.{arith}
 use Rattle.engine.proofs.Turning.{settled}
 use Rattle.engine.proofs.Areas.{bears_without}
 use Rattle.engine.proofs.Steering.{if_few, if_no_ref, if_no_bool, if_jumps, if_stays}
-use borrow.Author.Rules.{rules}
 use Rattle.engine.proofs.regs.Regs.if_true.Goals as goal
 use Rattle.engine.proofs.regs.Regs.if_true.Goals.{then-heap-p-eq1, else-heap-p-eq1}
 

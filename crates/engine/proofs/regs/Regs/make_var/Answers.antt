@@ -2,7 +2,6 @@ use mathlib.Core.Path.{refl}
 use native.Mathlib.Omega.{arith}
 use Rattle.engine.proofs.Turning.{settle_yes, settle_no, reads_below}
 use Rattle.engine.proofs.Moving.{make_var_few, make_var_none, make_var_leads, make_var_bears}
-use borrow.Author.Rules.{rules}
 use Rattle.engine.proofs.regs.Regs.make_var.Goals as goal
 
 pub returns-then-sp-self-lt1 : goal.returns-then-sp-self-lt1

@@ -1,6 +1,5 @@
 use Rattle.engine.proofs.Trying.{attempt_faults, attempt_goes}
 use mathlib.Core.Path.{sym}
-use borrow.Author.Rules.{rules}
 use Rattle.engine.proofs.regs.Regs.match_available.Goals as goal
 
 pub available-t-requires : goal.available-t-requires

@@ -1,6 +1,5 @@
 use Rattle.engine.proofs.Trying.{attempt_faults, attempt_goes}
 use native.Mathlib.Omega.{arith}
-use borrow.Author.Rules.{rules}
 use Rattle.engine.proofs.regs.Regs.match_cell.Goals as goal
 
 pub compare-t-requires : goal.compare-t-requires

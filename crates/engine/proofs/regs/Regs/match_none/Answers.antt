@@ -1,6 +1,5 @@
 use Rattle.engine.proofs.Trying.{none_leads, stays}
 use Rattle.engine.proofs.Turning.{settled}
-use borrow.Author.Rules.{rules}
 use Rattle.engine.proofs.regs.Regs.match_none.Goals as goal
 
 pub returns : goal.returns

@@ -1,6 +1,5 @@
 use Rattle.engine.proofs.Trying.{rule_none, rule_leads, drops}
 use Rattle.engine.proofs.Turning.{settled}
-use borrow.Author.Rules.{rules}
 use Rattle.engine.proofs.regs.Regs.match_rule.Goals as goal
 
 pub returns-then-count-self : goal.returns-then-count-self

@@ -1,6 +1,5 @@
 use Rattle.engine.proofs.Trying.{matched_leads, drops}
 use Rattle.engine.proofs.Turning.{settled}
-use borrow.Author.Rules.{rules}
 use Rattle.engine.proofs.regs.Regs.matched_rule.Goals as goal
 
 pub returns : goal.returns

@@ -1,7 +1,6 @@
 use native.Mathlib.Omega.{arith}
 use Rattle.engine.proofs.Turning.{turned_as}
 use Rattle.engine.proofs.Yielding.{made_on_top}
-use borrow.Author.Rules.{rules}
 use Rattle.engine.proofs.regs.Regs.mk_atom.Goals as goal
 
 pub returns : goal.returns

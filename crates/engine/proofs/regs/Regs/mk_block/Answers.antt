@@ -5,7 +5,6 @@ use lib.ListN.{length-set}
 use Rattle.engine.proofs.Turning.{settle_yes, settle_no, went_on}
 use Rattle.engine.proofs.Areas.{bears_push, bears_without}
 use Rattle.engine.proofs.Building.{block_few, block_wrong, block_leads, bears_block, bits_ref, without_sp}
-use borrow.Author.Rules.{rules}
 use Rattle.engine.proofs.regs.Regs.mk_block.Goals as goal
 
 pub returns-then-sp-self : goal.returns-then-sp-self

@@ -3,7 +3,6 @@ use Rattle.engine.proofs.Turning.{turned_as}
 use Rattle.engine.proofs.Moving.{mk_none_is}
 use Rattle.engine.proofs.WordKinds.{bits_none}
 use Rattle.hume.specs.Words.{none}
-use borrow.Author.Rules.{rules}
 use Rattle.engine.proofs.regs.Regs.mk_none.Goals as goal
 
 pub returns : goal.returns

@@ -2,7 +2,6 @@ use mathlib.Core.Path.{refl}
 use Rattle.engine.proofs.Turning.{settled}
 use Rattle.engine.proofs.Areas.{bears_without}
 use Rattle.engine.proofs.Moving.{pop_few, pop_leads}
-use borrow.Author.Rules.{rules}
 use Rattle.engine.proofs.regs.Regs.pop.Goals as goal
 
 pub returns-then-self-a : goal.returns-then-self-a

@@ -3,7 +3,6 @@ use native.Mathlib.Omega.{arith}
 use Rattle.engine.proofs.Turning.{settle_yes, settle_no, went_on}
 use Rattle.engine.proofs.Areas.{bears_push}
 use Rattle.engine.proofs.Moving.{push_leads}
-use borrow.Author.Rules.{rules}
 use Rattle.engine.proofs.regs.Regs.push.Goals as goal
 
 pub bounds-stack-sp : goal.bounds-stack-sp

@@ -2,7 +2,6 @@ use mathlib.Core.Path.{refl}
 use native.Mathlib.Omega.{arith}
 use Rattle.engine.proofs.Turning.{settle_yes, settle_no, went_on}
 use Rattle.engine.proofs.Moving.{push_nulls_leads, push_nulls_bears}
-use borrow.Author.Rules.{rules}
 use Rattle.engine.proofs.regs.Regs.push_nulls.Goals as goal
 
 pub blank-requires : goal.blank-requires

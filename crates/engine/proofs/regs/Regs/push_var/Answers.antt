@@ -2,7 +2,6 @@ use mathlib.Core.Path.{refl}
 use native.Mathlib.Omega.{arith}
 use Rattle.engine.proofs.Turning.{turned_as}
 use Rattle.engine.proofs.Moving.{reads_at, push_var_none, push_var_is}
-use borrow.Author.Rules.{rules}
 use Rattle.engine.proofs.regs.Regs.push_var.Goals as goal
 
 pub returns-then-self-fp : goal.returns-then-self-fp

@@ -4,7 +4,6 @@ use lib.ListN.{length-set}
 use Rattle.engine.proofs.Turning.{settle_yes, settle_no, went_on}
 use Rattle.engine.proofs.Building.{bits_ref}
 use Rattle.engine.proofs.Yielding.{unhandled_stops, raise_leads, bears_thrown, bears_exn}
-use borrow.Author.Rules.{rules}
 use Rattle.engine.proofs.regs.Regs.raise.Goals as goal
 
 pub returns-then-handler-eq255 : goal.returns-then-handler-eq255

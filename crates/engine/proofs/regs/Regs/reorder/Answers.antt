@@ -3,7 +3,6 @@ use Rattle.engine.proofs.Imaging.{orders_at, orders_room}
 use Rattle.engine.proofs.Turning.{settle_yes, settle_no}
 use native.Mathlib.Omega.{arith}
 use mathlib.Core.Path.{refl}
-use borrow.Author.Rules.{rules}
 use Rattle.engine.proofs.regs.Regs.reorder.Goals as goal
 
 pub bounds-orders-rs : goal.bounds-orders-rs

@@ -1,9 +1,4 @@
-use mathlib.Core.Path.{◌≡◌, refl, ◌∙◌}
-use Prim.Native.Nat.{ℕ, ◌<◌}
-use lib.ListN.{length}
-use Rattle.engine.specs.Turns.{buffers}
-use Rattle.engine.specs.Running.{Going}
-use Rattle.engine.specs.Underway.{Underway, calls}
+use mathlib.Core.Path.{refl, ◌∙◌}
 use Rattle.engine.proofs.Looping.{may_step, goes_on, is_over, unless_not, if_not}
 use Rattle.engine.proofs.regs.Regs.run.Goals as goal
 

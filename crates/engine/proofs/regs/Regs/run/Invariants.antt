@@ -1,10 +1,8 @@
-use mathlib.Core.Path.{◌≡◌, refl, ◌∙◌}
-use Prim.Native.Nat.{ℕ, ◌<◌}
+use mathlib.Core.Path.{◌≡◌}
 use lib.ListN.{length}
 use Rattle.engine.specs.Turns.{buffers}
 use Rattle.engine.specs.Running.{Going}
 use Rattle.engine.specs.Underway.{Underway, calls}
-use Rattle.engine.proofs.Looping.{may_step, goes_on, is_over, unless_not, if_not}
 use Rattle.engine.proofs.regs.Regs.run.Given as goal
 
 abbrev pub invariant-turns : goal.invariant-turns

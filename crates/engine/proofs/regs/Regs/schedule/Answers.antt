@@ -1,5 +1,4 @@
 use Rattle.engine.proofs.Steering.{schedule_turned}
-use borrow.Author.Rules.{rules}
 use Rattle.engine.proofs.regs.Regs.schedule.Goals as goal
 
 pub returns : goal.returns

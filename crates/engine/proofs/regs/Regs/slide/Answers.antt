@@ -2,7 +2,6 @@ use mathlib.Core.Path.{refl}
 use native.Mathlib.Omega.{arith}
 use Rattle.engine.proofs.Turning.{settle_yes, settle_no, reads_below}
 use Rattle.engine.proofs.Moving.{slide_few, slide_leads, slide_bears}
-use borrow.Author.Rules.{rules}
 use Rattle.engine.proofs.regs.Regs.slide.Goals as goal
 
 pub returns-then-sp-self : goal.returns-then-sp-self

@@ -1,6 +1,5 @@
 use Rattle.engine.proofs.Trying.{start_leads, stays}
 use Rattle.engine.proofs.Turning.{settled}
-use borrow.Author.Rules.{rules}
 use Rattle.engine.proofs.regs.Regs.start_matches.Goals as goal
 
 pub rule_at-requires : goal.rule_at-requires

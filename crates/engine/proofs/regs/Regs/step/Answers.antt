@@ -1,5 +1,4 @@
-use mathlib.Core.Path.{◌≡◌, refl, sym, ◌∙◌, subst}
-use mathlib.Core.Logic.{inl, inr}
+use mathlib.Core.Path.{refl, sym, ◌∙◌, subst}
 use Prim.Native.Nat.{ℕ, ◌<◌}
 use native.Mathlib.Omega.{arith}
 use Rattle.hume.specs.Image.{program}
@@ -9,8 +8,7 @@ use Rattle.engine.proofs.Imaging.{placed_of}
 use Rattle.engine.proofs.Copying.{wire_fits}
 use Rattle.engine.proofs.Writing.{wire_room}
 use Rattle.engine.proofs.Opcodes.{op_4, op_7, op_8, op_9, op_10, op_11, op_12, op_13, op_14, op_15, op_16, op_17, op_18, op_22, op_23, op_24, op_25, op_26, op_33, op_34, op_35, op_36, op_38, op_39, op_40}
-use Rattle.engine.proofs.Dispatching.{price_most, is_apply, is_schedule, applies, makes_bool, makes_int, makes_float, makes_tuple, makes_con, matches_bool, matches_int, matches_float, matches_tuple, matches_con, matches_exn, consumes_maybe, a_callee, applies_at, consuming_at, input_at, output_at_lem, from_either}
-use borrow.Author.Rules.{rules}
+use Rattle.engine.proofs.Dispatching.{price_most, applies, makes_bool, makes_int, makes_float, makes_tuple, makes_con, matches_bool, matches_int, matches_float, matches_tuple, matches_con, matches_exn, consumes_maybe, a_callee, applies_at, consuming_at, input_at, output_at_lem}
 use Rattle.engine.proofs.regs.Regs.step.Goals as goal
 use Rattle.engine.proofs.regs.Regs.step.Goals.{in_default-via-then-op-lt1, in_default-via-else-op-lt1+else-op-lt22}
 

@@ -1,5 +1,4 @@
 use native.Mathlib.Omega.{arith}
-use borrow.Author.Rules.{rules}
 use Rattle.engine.proofs.regs.Regs.try_any.Goals as goal
 
 pub returns-then-op-eq19 : goal.returns-then-op-eq19

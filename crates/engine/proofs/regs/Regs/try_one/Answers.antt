@@ -5,7 +5,6 @@ use Rattle.engine.specs.Outcomes.{settled}
 use Rattle.engine.proofs.Turning.{reads_below}
 use Rattle.engine.proofs.Building.{small_below}
 use Rattle.engine.proofs.Yielding.{one_few, one_no_ref, one_is, fair_fault, fair_tried, tame_one}
-use borrow.Author.Rules.{rules}
 use Rattle.engine.proofs.regs.Regs.try_one.Goals as goal
 
 pub returns-then-sp-self : goal.returns-then-sp-self

@@ -4,7 +4,6 @@ use borrow.Author.Tests.{not-true, not-false}
 use Rattle.engine.proofs.Turning.{reads_below}
 use Rattle.engine.proofs.Building.{small_below}
 use Rattle.engine.proofs.Yielding.{raise_few, raise_wrong, raise_is, fair_fault, fair_raises}
-use borrow.Author.Rules.{rules}
 use Rattle.engine.proofs.regs.Regs.try_raise.Goals as goal
 
 pub returns-then-sp-self : goal.returns-then-sp-self

@@ -5,7 +5,6 @@ use Rattle.engine.specs.Outcomes.{settled}
 use Rattle.engine.proofs.Turning.{reads_below}
 use Rattle.engine.proofs.Building.{small_below}
 use Rattle.engine.proofs.Yielding.{two_few, two_no_first, two_no_second, two_is, fair_fault, fair_tried, tame_two}
-use borrow.Author.Rules.{rules}
 use Rattle.engine.proofs.regs.Regs.try_two.Goals as goal
 
 pub returns-then-sp-self-lt2 : goal.returns-then-sp-self-lt2

@@ -3,7 +3,6 @@ use native.Mathlib.Omega.{arith}
 use borrow.Author.Tests.{not-true, not-false}
 use Rattle.engine.proofs.Turning.{settle_yes, settle_no, went_on, reads_below}
 use Rattle.engine.proofs.Building.{unpack_few, unpack_no_ref, unpack_wrong, unpack_leads, bears_unpacked, block_least, small_below}
-use borrow.Author.Rules.{rules}
 use Rattle.engine.proofs.regs.Regs.unpack.Goals as goal
 
 pub returns-then-sp-self : goal.returns-then-sp-self

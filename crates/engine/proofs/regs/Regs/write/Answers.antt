@@ -3,7 +3,6 @@ use native.Mathlib.Omega.{arith}
 use Rattle.engine.proofs.Turning.{settle_yes, settle_no}
 use Rattle.engine.proofs.Areas.{bears_without}
 use Rattle.engine.proofs.Writing.{wire_inside, own_offered, top_offered, roomy, faulty, put_none, room_taken, room_back, still, write_few, write_stops, write_leads}
-use borrow.Author.Rules.{rules}
 use Rattle.engine.proofs.regs.Regs.write.Goals as goal
 
 pub returns-then-sp-self : goal.returns-then-sp-self
