@@ -65,6 +65,7 @@ fn put(figures: &mut [u32], i: usize, x: u32)
     }
 }
 
+#[tactic(auto, using(crate::proofs::Writing::refused))]
 fn tell(figures: &mut [u32], r: Report) -> u32
     ensures value { result ≡ number r.verdict }
     ensures figures_after { figures.new ≡ recorded_by (number r.verdict) (reported r) figures.old }
