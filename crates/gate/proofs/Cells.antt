@@ -287,9 +287,9 @@ not_none s v ws g e z = by (front_of s 0 v ws g e)
     by (atom_front a b ws k q t) = tt
     by (block_front a vs ws k q t m g d) = tt
 
-is_none : (s : List ℕ) (v : Value) (ws : List ℕ) → T (good v) → drop 0 s ≡ prefix v ++ ws → get_or s 0 0 ≡ none_header
+is_none_lem : (s : List ℕ) (v : Value) (ws : List ℕ) → T (good v) → drop 0 s ≡ prefix v ++ ws → get_or s 0 0 ≡ none_header
     → T (not (is_nothing v)) → ⊥
-is_none s v ws g e z u = by (front_of s 0 v ws g e) u
+is_none_lem s v ws g e z u = by (front_of s 0 v ws g e) u
   where
     by : {v : Value} {ws : List ℕ} → Front s 0 v ws → T (not (is_nothing v)) → ⊥
     by (none_front ws k q) t = t
@@ -309,7 +309,7 @@ pub only_none : (s : List ℕ) → get_or s 0 0 ≡ none_header → one_value s 
 only_none s z =
     to_false (λ t.
     let o = one_value_lem s t in
-    is_none s o.value [] o.good (whole s o.value o.is) z o.some)
+    is_none_lem s o.value [] o.good (whole s o.value o.is) z o.some)
 
 pub value_ends : (s : List ℕ) (e : ℕ) → (length s ≡ 0 → ⊥) → (get_or s 0 0 ≡ none_header → ⊥) → CellEnds s 0 e
     → eqb e (length s) ≡ one_value s

@@ -115,9 +115,9 @@ module _ (P : Program) (acc : Accepted P) (nar : Narrow P) where
   is_some none = ⊥
   is_some (some x) = Unit {0}
 
-  abbrev run_of : Run State → Option (Run State) → Run State
-  run_of r none = r
-  run_of r (some x) = x
+  abbrev run_of_lem : Run State → Option (Run State) → Run State
+  run_of_lem r none = r
+  run_of_lem r (some x) = x
 
   -- An instruction that stays within the caps leads from a run in range to a run in range.
   pub ranged_kept : (card : List ℕ) → CardFits card → (r x : Run State) → Sound P r.state → Ranged r
@@ -134,7 +134,7 @@ module _ (P : Program) (acc : Accepted P) (nar : Narrow P) where
       by : (d : Act State End) → (machine P card).act r.state ≡ d → taken (machine P card) r d ≡ some x → Ranged x
       by (ends o) q f = absurd (subst is_some (sym f) tt)
       by (goes t u) q f =
-          let i : charge (machine P card) r t u ≡ x = ap (run_of r) f in
+          let i : charge (machine P card) r t u ≡ x = ap (run_of_lem r) f in
           let s : u ≡ x.state = ap (λ (y : Run State). y.state) i in
           subst Ranged i
           (one_more t u q (subst (λ (y : State). sp y ≤ 4096) (sym s) a)
