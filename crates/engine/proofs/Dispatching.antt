@@ -2,12 +2,11 @@
 use mathlib.Core.Path.{◌≡◌, refl, sym, ap, ◌∙◌, subst}
 use mathlib.Core.Bool.{true, false}
 use mathlib.Core.List.{List}
-use Prim.Native.Nat.{ℕ, zero, suc, ◌+◌, ◌-◌, ◌≤◌, ◌<◌}
+use Prim.Native.Nat.{ℕ, ◌+◌, ◌-◌, ◌≤◌, ◌<◌}
 use native.Mathlib.Omega.{arith}
 use native.Mathlib.Decide.{ℕ_discrete}
 use lib.Dec.{T, ltb→lt}
 use Rattle.hume.specs.Numbers.{canonical}
-use mathlib.Core.Logic.{◌⊎◌, inl, inr}
 use lib.ListN.{get_or}
 use Rattle.hume.specs.Tests.{pick}
 use Rattle.hume.specs.Image.{Program}
@@ -37,32 +36,6 @@ price_most card op f l m =
     let e = price_is card op (get_or card (op - 1) 0) (omega (arith, f.long)) refl in
     let k = f.most (op - 1) (omega arith) in
     omega (arith, e, k)
-
--- ---- which opcode
-
--- op is none of the k numbers from n on, and there is B besides
-abbrev Others : Type 0 → ℕ → ℕ → ℕ → Type 0
-Others B op n zero = B
-Others B op n (suc k) = Others B op n k × (op ≡ n + k → ⊥)
-
-past : (B : Type 0) (op n k : ℕ) → n ≤ op → Others B op n k → n + k ≤ op
-past B op n zero l o = omega arith
-past B op n (suc k) l o =
-    let r : n + k ≤ op = past B op n k l o.0 in
-    let d : op ≡ n + k → ⊥ = o.1 in
-    omega arith
-
-module _ (B : Type 0) (op : ℕ) (least : 1 ≤ op) (o : Others (Others B op 1 18) op 22 18) where
-  -- an opcode that has no arm of its own
-  pub is_apply : 19 ≤ op
-  is_apply = past B op 1 18 least o.0.0.0.0.0.0.0.0.0.0.0.0.0.0.0.0.0.0
-
-  -- and isn't 19, 20 or 21
-  pub is_schedule : op ≤ 40 → (op < 1) ⊎ (22 ≤ op) → op ≡ 40
-  is_schedule m (inl h) = absurd (omega (arith, least))
-  is_schedule m (inr h) =
-      let r : 40 ≤ op = past (Others B op 1 18) op 22 18 h o in
-      omega arith
 
 -- ---- what an arm does, by the function that serves several opcodes
 
@@ -174,8 +147,3 @@ module _ (P : Program) (k : ℕ) (f : InstructionFits P k) where
 
   pub output_at_lem : {a i : ℕ} → P.opcode k ≡ 39 → a ≡ P.arg_a k → i ≡ P.inputs → i + a < P.inputs + P.outputs
   output_at_lem e g h = omega (arith, a_output e, g, h)
-
--- either way
-pub from_either : {A B X : Type 0} → (A → X) → (B → X) → A ⊎ B → X
-from_either f g (inl a) = f a
-from_either f g (inr b) = g b

@@ -5,7 +5,6 @@ use mathlib.Core.List.{List, []}
 use Prim.Native.Nat.{ℕ, zero, suc, ◌-◌, ◌^◌, ◌≤◌, ◌<◌}
 use native.Mathlib.Nat.{not-suc-le-zero}
 use native.Mathlib.Omega.{arith}
-use mathlib.Core.Logic.{◌⊎◌, inl, inr}
 use lib.ListN.{length, get_or}
 use lib.Dec.{T, leb, leb→le}
 use Rattle.limits.specs.Machine.{Run, fresh, Outcome, limited}
@@ -257,17 +256,3 @@ turned_away m card T S H st he wi or q v e n p = by (number v) refl
 -- and one that isn't
 pub no_number : {v : Verdict} {n : ℕ} → number v ≡ n → v ≡ verdict.Accepted → n ≡ 0
 no_number e a = sym e ∙ ap number a ∙ number_accepted
-
--- no tag but the first is 0
-abbrev pub Tag : ℕ → Type 0
-Tag k = ◌≡◌ {A = ℕ} 0 k
-
-pub no_tag : Tag 1 ⊎ (Tag 2 ⊎ (Tag 3 ⊎ (Tag 4 ⊎ (Tag 5 ⊎ (Tag 6 ⊎ (Tag 7 ⊎ Tag 8)))))) → ⊥
-no_tag (inl e) = omega (arith, e)
-no_tag (inr (inl e)) = omega (arith, e)
-no_tag (inr (inr (inl e))) = omega (arith, e)
-no_tag (inr (inr (inr (inl e)))) = omega (arith, e)
-no_tag (inr (inr (inr (inr (inl e))))) = omega (arith, e)
-no_tag (inr (inr (inr (inr (inr (inl e)))))) = omega (arith, e)
-no_tag (inr (inr (inr (inr (inr (inr (inl e))))))) = omega (arith, e)
-no_tag (inr (inr (inr (inr (inr (inr (inr e))))))) = omega (arith, e)

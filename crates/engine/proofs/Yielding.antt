@@ -73,18 +73,6 @@ module _ {l : List ℕ} (e : l ≡ cycle_table) where
 
 -- ---- one primitive, by number
 
--- a is none of the n numbers from lo on, as a match has it
-abbrev pub Avoids : ℕ → ℕ → ℕ → Type 0
-Avoids a lo zero = Unit {0}
-Avoids a lo (suc n) = Avoids a lo n × (a ≡ lo + n → ⊥)
-
-pub avoids : (a lo n : ℕ) → lo ≤ a → Avoids a lo n → lo + n ≤ a
-avoids a lo zero h t = omega arith
-avoids a lo (suc n) h t =
-    let k : lo + n ≤ a = avoids a lo n h t.0 in
-    let z : a ≡ lo + n → ⊥ = t.1 in
-    omega (arith, k, z)
-
 pub beyond_one : (a : ℕ) → 3 < a → prim1 a ≡ no_primitive
 unfolding prim1 one_operand
 beyond_one a h = get_or-eq_default one_operand no_primitive {n = a - 1} (omega arith)

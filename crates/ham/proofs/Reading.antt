@@ -1,6 +1,5 @@
 -- Bytes that were read behind others: what was asked for before stays so, and what they themselves were asked by.
 use mathlib.Core.Path.{◌≡◌, sym, ap, ◌∙◌}
-use mathlib.Core.Bool.{true, false}
 use mathlib.Core.List.{List, ◌++◌}
 use Prim.Native.Nat.{ℕ, ◌+◌, ◌-◌, ◌≤◌, ◌<◌}
 use native.Mathlib.Decide.{dec_le}
@@ -10,33 +9,6 @@ use lib.ListN.{length, take, length-append}
 use lib.Seq.{length-take-le, take-append-le, take-append-add, take-take}
 use Rattle.sheet.specs.Needed.{needed}
 use Rattle.sheet.proofs.Enough.{needed_kept}
-
-pub not_whole : false ≡ true → ⊥
-not_whole e =
-    let z : ◌≡◌ {A = ℕ} 0 1 = cc in
-    omega arith
-
-pub not_cut : true ≡ false → ⊥
-not_cut e =
-    let z : ◌≡◌ {A = ℕ} 0 1 = cc in
-    omega arith
-
--- n more of the bytes asked for, from `done` to `upto`, have room in the buffer before and after
-pub record Room (size done upto n : ℕ) : Type 0 where
-  pub old : done ≤ size
-  pub most : done + n ≤ upto
-  pub new : done + n ≤ size
-  pub some : done < upto
-
-pub room : {first size after mid long done upto n : ℕ} → 36159 ≤ first → size ≡ first → upto < 36160 → done < upto
-    → mid ≡ upto - done → long ≡ mid → after ≡ size → n ≤ long → Room after done upto n
-room a b c d e f g h =
-    record {
-      old = omega (arith, a, b, c, d, g);
-      most = omega (arith, d, e, f, h);
-      new = omega (arith, a, b, c, d, e, f, g, h);
-      some = d;
-    }
 
 -- the buffer with `last` in the place of the w bytes from `done` on
 module _ (input last : List ℕ) (done w : ℕ) (within : done ≤ length input) where

@@ -95,15 +95,14 @@ kept_set l k x r h = record { front = take-set-le r l k x h }
 pub kept_front : (l before : List ℕ) (k x : ℕ) → Kept before l k → Kept before (set l (k - 1) x) (k - 1)
 kept_front l before k x e = kept_both e (kept_set l (k - 1) x (k - 1) (omega arith)) (omega arith)
 
--- a byte that is put leaves the size
-pub size_kept : (l : List ℕ) (k x : ℕ) → length (set l k x) ≡ length l
-size_kept l k x = length-set l k x
-
 -- the last digit of a number is put in front of the others
 pub last_digit : (line : List ℕ) (at left rest : ℕ) → 1 ≤ at → at ≤ length line → 0 < left → rest < 10
     → drop (at - 1) (set line (at - 1) (48 + rest % 10)) ≡ digits left rest (drop at line)
 last_digit line at left rest low high more small =
     put_front line at _ low high ∙ sym (digits_last left rest (drop at line) more small)
+
+-- what is said of a number whose last digit is put
+pub ruleset number_done = (last_digit, kept_front, length-set)
 
 -- a line ends where the buffer does
 pub line_end : (l : List ℕ) (n : ℕ) → length l ≡ n → drop n l ≡ []

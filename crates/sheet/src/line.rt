@@ -4,7 +4,7 @@ ghost use Rattle.hume.specs.Sheet.{decimal, figures_line, refused_line};
 ghost use Rattle.sheet.specs.Lines.{Text, figures_in};
 
 // The digits of n, before what stands at `end`. A figure is below 2^32, so it has at most 10 digits.
-#[tactic(auto, using(crate::proofs::Lines::last_digit, crate::proofs::Lines::kept_front, crate::proofs::Lines::size_kept))]
+#[tactic(auto, using(crate::proofs::Lines::number_done))]
 fn put_decimal(line: &mut [u8], end: usize, n: u32) -> usize
     requires { (10 ≤ end) × (end ≤ length line.old) }
     ensures { Text (length line.old) line.old line.new result (decimal n (drop end line.old)) (end - 10) end }

@@ -6,9 +6,6 @@ use Rattle.engine.proofs.Imaging.{placed_of}
 use Rattle.engine.proofs.Opening.{bytes_of, words_of, laid_out, an_image, long_enough, some_ruleset, under, ran_over, last_small, answered}
 use Rattle.engine.proofs.run_accepted.Goals as goal
 
-pub layout-table-requires : goal.layout-table-requires
-layout-table-requires c = tt
-
 pub fix-fixed-requires : goal.fix-fixed-requires
 fix-fixed-requires c =
     record {
@@ -24,9 +21,6 @@ entry_of-requires c =
       placed = placed_of (laid_out c.layout-table.ensures);
       a_bound = some_ruleset _ _ _ _ _ _ _ _ _ c.requires (bytes_of c.shared_slice_known-1.given);
     }
-
-pub begin-first-requires : goal.begin-first-requires
-begin-first-requires c = tt
 
 pub run-turn-requires : goal.run-turn-requires
 unfolding cycle_table

@@ -29,9 +29,6 @@ bounds-at-k c = omega arith
 pub overflow_add-p : goal.overflow_add-p
 overflow_add-p c = omega arith
 
-pub byte_at-count-requires : goal.byte_at-count-requires
-byte_at-count-requires c = tt
-
 pub overflow_add-at : goal.overflow_add-at
 overflow_add-at c = omega arith
 

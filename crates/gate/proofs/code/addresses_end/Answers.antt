@@ -8,18 +8,9 @@ use Rattle.gate.proofs.Tests.{every_yes, every_no, place_found, place_lost}
 use Rattle.gate.proofs.Rulesets.{ruleset_next, entry_out, rules_are}
 use Rattle.gate.proofs.code.addresses_end.Goals as goal
 
-pub byte_at-rulesets-requires : goal.byte_at-rulesets-requires
-byte_at-rulesets-requires c = tt
-
-pub half_at-size-requires : goal.half_at-size-requires
-half_at-size-requires c = tt
-
 pub loop-r-init : goal.loop-r-init
 unfolding ruleset_at
 loop-r-init c = (omega arith, refl, omega arith, below_none _)
-
-pub half_at-requires : goal.half_at-requires
-half_at-requires c = tt
 
 pub returns-then-size-half_at : goal.returns-then-size-half_at
 unfolding program
@@ -32,9 +23,6 @@ returns-then-size-half_at c =
 
 pub overflow_add-at : goal.overflow_add-at
 overflow_add-at c = omega arith
-
-pub byte_at-count-requires : goal.byte_at-count-requires
-byte_at-count-requires c = tt
 
 pub overflow_add-at-in-loop-r : goal.overflow_add-at-in-loop-r
 overflow_add-at-in-loop-r c = omega arith

@@ -10,18 +10,6 @@ use Rattle.gate.proofs.Tests.{every_yes, every_no, and_yes, and_no}
 use Rattle.gate.proofs.Instructions.{instruction_is, last_is}
 use Rattle.gate.proofs.code.instructions_ok.Goals as goal
 
-pub half_at-size-requires : goal.half_at-size-requires
-half_at-size-requires c = tt
-
-pub byte_at-requires : goal.byte_at-requires
-byte_at-requires c = tt
-
-pub byte_at-requires-2 : goal.byte_at-requires-2
-byte_at-requires-2 c = tt
-
-pub byte_at-requires-3 : goal.byte_at-requires-3
-byte_at-requires-3 c = tt
-
 pub loop-k-init : goal.loop-k-init
 loop-k-init c = (omega arith, below_none _)
 
@@ -68,12 +56,6 @@ overflow_mul-size c = omega arith
 
 pub overflow_add-start-2 : goal.overflow_add-start-2
 overflow_add-start-2 c = omega arith
-
-pub byte_at-requires-4 : goal.byte_at-requires-4
-byte_at-requires-4 c = tt
-
-pub ends_ok-requires : goal.ends_ok-requires
-ends_ok-requires c = tt
 
 pub returns : goal.returns
 unfolding program

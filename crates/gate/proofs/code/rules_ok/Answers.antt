@@ -17,9 +17,6 @@ overflow_mul-k c = omega arith
 pub overflow_add-at : goal.overflow_add-at
 overflow_add-at c = omega arith
 
-pub half_at-requires : goal.half_at-requires
-half_at-requires c = tt
-
 pub returns-then-size-half_at : goal.returns-then-size-half_at
 unfolding rules_ok
 returns-then-size-half_at c =

@@ -13,9 +13,6 @@ loop-r-init c = (omega arith, refl, omega arith, below_none _)
 pub overflow_add-at : goal.overflow_add-at
 overflow_add-at c = omega arith
 
-pub byte_at-count-requires : goal.byte_at-count-requires
-byte_at-count-requires c = tt
-
 pub returns-then-count-lt1 : goal.returns-then-count-lt1
 returns-then-count-lt1 c =
     place_lost _ _ _

@@ -6,12 +6,6 @@ use Rattle.hume.specs.Image.{program}
 use Rattle.gate.proofs.Lent.{rulesets_few, whole_order, lent_part, order_long, order_out, order_in}
 use Rattle.gate.proofs.order.order_ok.Goals as goal
 
-pub byte_at-rulesets-requires : goal.byte_at-rulesets-requires
-byte_at-rulesets-requires c = tt
-
-pub layout-begins-requires : goal.layout-begins-requires
-layout-begins-requires c = tt
-
 pub bounds-places-rulesets : goal.bounds-places-rulesets
 bounds-places-rulesets c =
     let few =

@@ -34,9 +34,6 @@ cell_end-offset_bounds-s-j t c = omega (arith, c.if-s-j.false, c.well_formed)
 pub cell_end-bounds-s-j : goal.cell_end-bounds-s-j
 cell_end-bounds-s-j t c = c.if-s-j.false
 
-pub cell_end-atom_ok-requires : goal.cell_end-atom_ok-requires
-cell_end-atom_ok-requires t c = tt
-
 pub cell_end-overflow_add-result-then-atom_ok : goal.cell_end-overflow_add-result-then-atom_ok
 cell_end-overflow_add-result-then-atom_ok t c = omega (arith, c.if-s-j.false, c.well_formed)
 
@@ -44,9 +41,6 @@ pub cell_end-returns-then-atom_ok : goal.cell_end-returns-then-atom_ok
 cell_end-returns-then-atom_ok t c =
     an_atom c.args.s.now c.args.i c.if-h-eq458752.false c.if-s-j.false
     (of_true (sym c.atom_ok.ensures ∙ c.if-atom_ok.true))
-
-pub cell_end-block_ok-requires : goal.cell_end-block_ok-requires
-cell_end-block_ok-requires t c = tt
 
 pub cell_end-overflow_add-i : goal.cell_end-overflow_add-i
 cell_end-overflow_add-i t c = omega (arith, c.if-s-j.false, c.well_formed)

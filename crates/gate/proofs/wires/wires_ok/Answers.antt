@@ -7,12 +7,6 @@ use Rattle.hume.specs.Image.{program}
 use Rattle.gate.proofs.Lent.{wires_long, wires_out, wires_in}
 use Rattle.gate.proofs.wires.wires_ok.Goals as goal
 
-pub byte_at-requires : goal.byte_at-requires
-byte_at-requires c = tt
-
-pub byte_at-requires-2 : goal.byte_at-requires-2
-byte_at-requires-2 c = tt
-
 pub overflow_add-n : goal.overflow_add-n
 overflow_add-n c = omega arith
 

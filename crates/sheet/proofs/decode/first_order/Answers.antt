@@ -9,18 +9,12 @@ use Rattle.gate.proofs.Rulesets.{ruleset_next, count_is}
 use Rattle.sheet.proofs.Decoding.{order_next, order_part, rulesets_most, rules_most}
 use Rattle.sheet.proofs.decode.first_order.Goals as goal
 
-pub byte_at-rulesets-requires : goal.byte_at-rulesets-requires
-byte_at-rulesets-requires c = tt
-
 pub loop-r-init : goal.loop-r-init
 unfolding ruleset_at first_order
 loop-r-init c = (omega arith, refl, omega arith, omega arith, refl, refl)
 
 pub overflow_add-at : goal.overflow_add-at
 overflow_add-at c = omega (arith, c.loop-r.invariant.2, c.loop-r-test.true, c.byte_at-rulesets.ensures.small)
-
-pub byte_at-n-requires : goal.byte_at-n-requires
-byte_at-n-requires c = tt
 
 pub slice_bounds-count_up-count : goal.slice_bounds-count_up-count
 slice_bounds-count_up-count c =

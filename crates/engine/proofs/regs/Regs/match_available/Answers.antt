@@ -2,26 +2,9 @@ use Rattle.engine.proofs.Trying.{attempt_faults, attempt_goes}
 use mathlib.Core.Path.{sym}
 use Rattle.engine.proofs.regs.Regs.match_available.Goals as goal
 
-pub available-t-requires : goal.available-t-requires
-available-t-requires c =
-    record {
-      inp_bound = c.requires.fit.inp;
-      inputs_in_bounds = c.requires.inputs_value.1;
-    }
-
 pub returns-then-t-ne0 : goal.returns-then-t-ne0
 returns-then-t-ne0 c =
     λ st he. attempt_faults _ (c.available-t.ensures _ _ _ _ (sym c.requires.inputs_value.0)) c.if-t-ne0.true c.halt.ensures
-
-pub conclude-requires : goal.conclude-requires
-conclude-requires c =
-    record {
-      fit = c.requires.fit;
-      imaged = c.requires.imaged;
-      located = c.requires.located;
-      order_fits = c.requires.order_fits;
-      rs_bound = c.requires.rs_bound;
-    }
 
 pub returns : goal.returns
 returns c =

@@ -14,16 +14,6 @@ compare-t-requires c =
 pub returns-then-t-ne0 : goal.returns-then-t-ne0
 returns-then-t-ne0 c = λ wi. attempt_faults _ (c.compare-t.ensures _ _ _) c.if-t-ne0.true c.halt.ensures
 
-pub conclude-requires : goal.conclude-requires
-conclude-requires c =
-    record {
-      fit = c.requires.fit;
-      imaged = c.requires.imaged;
-      located = c.requires.located;
-      order_fits = c.requires.order_fits;
-      rs_bound = c.requires.rs_bound;
-    }
-
 pub returns : goal.returns
 returns c =
     λ wi. attempt_goes _ (c.compare-t.ensures _ _ _) c.if-t-ne0.false (c.conclude.ensures _ _ _)

@@ -20,9 +20,6 @@ pub turns-preserved : goal.turns-preserved
 turns-preserved c =
     let i = c.turns.invariant in (λ u. (goes_on u (c.turns.invariant.0 u) _ _ c.step-turn.ensures (unless_not _ c.if-over.false)).going, c.step-turn.auto.stack ∙ i.1, c.step-turn.auto.heap ∙ i.2, c.step-turn.auto.wires ∙ i.3, c.step-turn.auto.order ∙ i.4)
 
-pub halt-requires : goal.halt-requires
-halt-requires c = tt
-
 pub shape_of-stack : goal.shape_of-stack
 shape_of-stack c = c.step-turn.auto.stack ∙ c.turns.invariant.1
 

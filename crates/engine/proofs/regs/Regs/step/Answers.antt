@@ -40,14 +40,6 @@ c_at-requires c =
       code_value = (c.requires.ready.fixing.code, c.requires.ready.pc);
     }
 
-pub mk_atom-requires : goal.mk_atom-requires
-mk_atom-requires c =
-    record {
-      fit = c.requires.ready.fit;
-      stack_in_bounds = c.requires.ready.stack_room;
-      heap_in_bounds = c.requires.ready.heap_room;
-    }
-
 pub c_at-requires-in-2 : goal.c_at-requires-in-2
 c_at-requires-in-2 c =
     record {
@@ -55,37 +47,11 @@ c_at-requires-in-2 c =
       code_value = (c.requires.ready.fixing.code, c.requires.ready.pc);
     }
 
-pub mk_atom-requires-in-2 : goal.mk_atom-requires-in-2
-mk_atom-requires-in-2 c =
-    record {
-      fit = c.requires.ready.fit;
-      stack_in_bounds = c.requires.ready.stack_room;
-      heap_in_bounds = c.requires.ready.heap_room;
-    }
-
 pub c_at-requires-in-3 : goal.c_at-requires-in-3
 c_at-requires-in-3 c =
     record {
       imaged = c.requires.ready.imaged;
       code_value = (c.requires.ready.fixing.code, c.requires.ready.pc);
-    }
-
-pub canonical-requires : goal.canonical-requires
-canonical-requires c = tt
-
-pub mk_atom-requires-in-3 : goal.mk_atom-requires-in-3
-mk_atom-requires-in-3 c =
-    record {
-      fit = c.requires.ready.fit;
-      stack_in_bounds = c.requires.ready.stack_room;
-      heap_in_bounds = c.requires.ready.heap_room;
-    }
-
-pub mk_none-requires : goal.mk_none-requires
-mk_none-requires c =
-    record {
-      fit = c.requires.ready.fit;
-      stack_in_bounds = c.requires.ready.stack_room;
     }
 
 pub a_at-requires : goal.a_at-requires
@@ -165,25 +131,11 @@ a_at-requires-in-9 c =
       code_value = (c.requires.ready.fixing.code, c.requires.ready.pc);
     }
 
-pub slide-requires : goal.slide-requires
-slide-requires c =
-    record {
-      fit = c.requires.ready.fit;
-      stack_in_bounds = c.requires.ready.stack_room;
-    }
-
 pub a_at-requires-in-10 : goal.a_at-requires-in-10
 a_at-requires-in-10 c =
     record {
       imaged = c.requires.ready.imaged;
       code_value = (c.requires.ready.fixing.code, c.requires.ready.pc);
-    }
-
-pub copy-requires : goal.copy-requires
-copy-requires c =
-    record {
-      fit = c.requires.ready.fit;
-      stack_in_bounds = c.requires.ready.stack_room;
     }
 
 pub a_at-requires-in-11 : goal.a_at-requires-in-11
@@ -223,25 +175,11 @@ a_at-requires-in-13 c =
       code_value = (c.requires.ready.fixing.code, c.requires.ready.pc);
     }
 
-pub push_var-requires : goal.push_var-requires
-push_var-requires c =
-    record {
-      fit = c.requires.ready.fit;
-      stack_in_bounds = c.requires.ready.stack_room;
-    }
-
 pub a_at-requires-in-14 : goal.a_at-requires-in-14
 a_at-requires-in-14 c =
     record {
       imaged = c.requires.ready.imaged;
       code_value = (c.requires.ready.fixing.code, c.requires.ready.pc);
-    }
-
-pub make_var-requires : goal.make_var-requires
-make_var-requires c =
-    record {
-      fit = c.requires.ready.fit;
-      stack_in_bounds = c.requires.ready.stack_room;
     }
 
 pub b_at-requires-in-15 : goal.b_at-requires-in-15
@@ -261,15 +199,6 @@ b_at-requires-in-16 c =
       code_value = (c.requires.ready.fixing.code, c.requires.ready.pc);
     }
 
-pub if_true-requires : goal.if_true-requires
-if_true-requires c =
-    record {
-      fit = c.requires.ready.fit;
-      stack_in_bounds = c.requires.ready.stack_room;
-      heap_in_bounds = c.requires.ready.heap_room;
-      refs = c.requires.ready.refs;
-    }
-
 pub a_at-a-requires : goal.a_at-a-requires
 a_at-a-requires c =
     record {
@@ -283,31 +212,6 @@ entry_of-requires c =
       imaged = c.requires.ready.imaged;
       placed = placed_of c.requires.ready.located;
       a_bound = subst (λ (x : ℕ). x < (program c.args.image.now).rulesets) (sym c.a_at-a.ensures.0) (a_callee (program c.args.image.now) _ (c.requires.ready.imaged.accepted.instruction _ c.requires.ready.pc) (sym c.opcode_at-op.ensures.0 ∙ c.in-17.is));
-    }
-
-pub call-requires : goal.call-requires
-call-requires c =
-    record {
-      fit = c.requires.ready.fit;
-      stack_in_bounds = c.requires.ready.stack_room;
-    }
-
-pub give_back-requires : goal.give_back-requires
-give_back-requires c =
-    record {
-      fit = c.requires.ready.fit;
-      stack_in_bounds = c.requires.ready.stack_room;
-      framed = c.requires.ready.framed;
-    }
-
-pub start_matches-requires : goal.start_matches-requires
-start_matches-requires c =
-    record {
-      fit = c.requires.ready.fit;
-      imaged = c.requires.ready.imaged;
-      located = c.requires.ready.located;
-      order_fits = c.requires.ready.order;
-      rs_bound = c.requires.ready.rs;
     }
 
 pub match_rule-requires : goal.match_rule-requires
@@ -380,9 +284,6 @@ c_at-requires-in-29 c =
       imaged = c.requires.ready.imaged;
       code_value = (c.requires.ready.fixing.code, c.requires.ready.pc);
     }
-
-pub canonical-c-requires : goal.canonical-c-requires
-canonical-c-requires c = tt
 
 pub match_cell-requires-in-29 : goal.match_cell-requires-in-29
 match_cell-requires-in-29 c =
@@ -476,26 +377,6 @@ match_cell-requires-in-32 c =
       rs_bound = c.requires.ready.rs;
       stack_in_bounds = (c.requires.ready.stack_room, c.requires.ready.heap_room);
       refs = c.requires.ready.refs;
-    }
-
-pub unpack-requires : goal.unpack-requires
-unpack-requires c =
-    record {
-      fit = c.requires.ready.fit;
-      stack_in_bounds = c.requires.ready.stack_room;
-      heap_in_bounds = c.requires.ready.heap_room;
-      refs = c.requires.ready.refs;
-      blocks = c.requires.ready.blocks;
-    }
-
-pub reorder-requires : goal.reorder-requires
-reorder-requires c =
-    record {
-      fit = c.requires.ready.fit;
-      imaged = c.requires.ready.imaged;
-      located = c.requires.ready.located;
-      order_fits = c.requires.ready.order;
-      rs_bound = c.requires.ready.rs;
     }
 
 pub a_at-requires-in-35 : goal.a_at-requires-in-35
