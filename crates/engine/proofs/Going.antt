@@ -1,6 +1,7 @@
 -- One turn of the loop, of a run that is under way.
 use mathlib.Core.Path.{◌≡◌, refl, sym, ap, ◌∙◌, subst}
 use mathlib.Core.Bool.{Bool, true, false}
+use Rattle.std.specs.Prelude.{Some, None}
 use Prim.Native.Nat.{ℕ, suc, ◌+◌, ◌-◌, ◌≤◌, ◌<◌, max}
 use native.Mathlib.Omega.{arith}
 use Rattle.limits.specs.Machine.{ends, goes, Run, Ending as Halt, own, limit, stopped, Inside, charge, limited}
@@ -29,8 +30,8 @@ use Rattle.engine.specs.declared.regs.Turn.{Turn}
 
 -- what a turn makes of a run that is under way
 pub data Next (g : Given) (r : Regs) (q : Turn) (b' : Buffers) : Type 0 where
-  on : q.go ≡ true → Going g q.regs b' → q.regs.left < r.left → Next g r q b'
-  over : q.go ≡ false → Over g q.regs q.ending b' → Next g r q b'
+  on : q.ending ≡ None → Going g q.regs b' → q.regs.left < r.left → Next g r q b'
+  over : (e : Ending) → q.ending ≡ Some e → Over g q.regs e b' → Next g r q b'
 
 module _ (g : Given) (a : Allowed g) (y : Typed g) {lim : Limits} (k : Bounds g lim) {r : Regs} {b : Buffers} (w : Going g r b) where
   abbrev T : ℕ
@@ -50,7 +51,7 @@ module _ (g : Given) (a : Allowed g) (y : Typed g) {lim : Limits} (k : Bounds g 
   stays q e p h z s b' c =
       subst (λ (x : Buffers). Next g r q x) (sym c)
       (subst (λ (x : Turn). Next g r x b) (sym p)
-      (over refl
+      (over e refl
       (record {
         ws = w.ws;
         hs = w.hs;
@@ -162,7 +163,7 @@ module _ (g : Given) (a : Allowed g) (y : Typed g) {lim : Limits} (k : Bounds g 
               (omega (arith, s.time, takes_time)))
           by true e =
               subst (λ (x : Turn). Next g r x b') (sym (s.turn ∙ ap (λ (d : Bool). onward d (paid r t s.next)) e))
-              (over refl
+              (over ending.Finished refl
               (record {
                 ws = u.stack;
                 hs = u.heap;

@@ -1,6 +1,7 @@
 -- The loop: from one turn to the next, and to its end.
-use mathlib.Core.Path.{◌≡◌, refl, sym, ◌∙◌}
-use mathlib.Core.Bool.{Bool, true, false, not, true≢false, false≢true}
+use mathlib.Core.Path.{◌≡◌, ap, sym, subst, ◌∙◌}
+use Rattle.std.specs.Prelude.{Option, Some, None}
+use Rattle.std.proofs.lemmas.Option.{none-some}
 use mathlib.Core.List.{List}
 use Prim.Native.Nat.{ℕ, ◌<◌}
 use lib.ListN.{length}
@@ -11,6 +12,7 @@ use Rattle.engine.specs.Turns.{Buffers, Meets}
 use Rattle.engine.specs.Running.{Going, Over}
 use Rattle.engine.specs.Ready.{Ready}
 use Rattle.engine.specs.Underway.{Underway, calls}
+use Rattle.engine.specs.declared.Ending.{Ending}
 use Rattle.engine.specs.declared.regs.Limits.{Limits}
 use Rattle.engine.specs.declared.regs.Regs.{Regs}
 use Rattle.engine.specs.declared.regs.Turn.{Turn}
@@ -18,13 +20,12 @@ use Rattle.engine.specs.declared.stepping.Fixed.{Fixed}
 use Rattle.engine.proofs.Going.{Next, on, over, turned}
 use Rattle.engine.proofs.Standing.{ready}
 
-pub unless_not : (b : Bool) → not b ≡ false → b ≡ true
-unless_not true e = refl
-unless_not false e = sym e
-
-pub if_not : (b : Bool) → not b ≡ true → b ≡ false
-if_not true e = sym e
-if_not false e = refl
+some_is : {x y : Ending} → Some x ≡ Some y → x ≡ y
+some_is {x} e = ap (λ (o : Option Ending). get x o) e
+  where
+    get : Ending → Option Ending → Ending
+    get x None = x
+    get x (Some y) = y
 
 -- a run that is under way and goes on
 pub record On (g : Given) (r : Regs) (q : Regs) (b : Buffers) : Type 0 where
@@ -45,16 +46,17 @@ module _ {m card at orders : List ℕ} {lim : Limits} {f : Fixed} {s₀ : Regs} 
       next : Next (calls m card u.limits u.lent) s q b'
       next = turned (calls m card u.limits u.lent) u.allowed u.typed u.bounds w q b' t
 
-      pub goes_on : q.go ≡ true → On (calls m card u.limits u.lent) s q.regs b'
-      goes_on e = by next
+      pub going_on : ((e : Ending) → q.ending ≡ Some e → ⊥) → On (calls m card u.limits u.lent) s q.regs b'
+      going_on e = by next
         where
           by : Next (calls m card u.limits u.lent) s q b' → On (calls m card u.limits u.lent) s q.regs b'
           by (on p v l) = record { going = v; less = l }
-          by (over p v) = absurd (true≢false (sym e ∙ p))
+          by (over x p v) = absurd (e x p)
 
-      pub is_over : q.go ≡ false → Over (calls m card u.limits u.lent) q.regs q.ending b'
-      is_over e = by next
+      pub is_over : (e : Ending) → q.ending ≡ Some e → Over (calls m card u.limits u.lent) q.regs e b'
+      is_over e k = by next
         where
-          by : Next (calls m card u.limits u.lent) s q b' → Over (calls m card u.limits u.lent) q.regs q.ending b'
-          by (on p v l) = absurd (false≢true (sym e ∙ p))
-          by (over p v) = v
+          by : Next (calls m card u.limits u.lent) s q b' → Over (calls m card u.limits u.lent) q.regs e b'
+          by (on p v l) = absurd (none-some e (sym p ∙ k))
+          by (over x p v) =
+              subst (λ (y : Ending). Over (calls m card u.limits u.lent) q.regs y b') (some_is (sym p ∙ k)) v

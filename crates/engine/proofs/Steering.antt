@@ -1,4 +1,6 @@
 -- What the instructions that go elsewhere than to the next one lead to.
+use Rattle.std.specs.Prelude.{Some}
+use Rattle.std.specs.Option.{unwrap_or}
 use mathlib.Core.Path.{◌≡◌, refl, sym, ap, ◌∙◌, subst}
 use mathlib.Core.Bool.{Bool, true, false, not, ◌&&◌}
 use mathlib.Core.List.{List, [], ◌∷◌, ◌++◌, append-nil}
@@ -53,7 +55,7 @@ restored r st lp =
 
 -- a turn after which nothing goes on
 abbrev pub closed : Turn → Turn
-closed q = record { regs = q.regs; go = false; ending = q.ending }
+closed q = record { regs = q.regs; ending = Some (unwrap_or q.ending ending.Finished) }
 
 -- ---- the frame
 

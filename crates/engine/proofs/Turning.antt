@@ -9,7 +9,7 @@ use Rattle.limits.specs.Machine.{Act, ends, goes}
 use Rattle.hume.specs.Words.{Word, null, bits}
 use Rattle.hume.specs.State.{State, End, Deed, leaving, locals, values, lp, below}
 use Rattle.hume.specs.Machine.{charged}
-use Rattle.engine.specs.Turns.{Bears, plain, core, Holds, end_of, halt, Charging, Buffers, Turned, ended, went}
+use Rattle.engine.specs.Turns.{Bears, plain, core, Holds, end_of, halt, Charging, goes_on, Buffers, Turned, ended, went}
 use Rattle.engine.specs.Turns as turns
 use Rattle.engine.specs.declared.regs.Limits.{Limits}
 use Rattle.engine.specs.declared.regs.Regs.{Regs}
@@ -32,19 +32,19 @@ pub record Borne (b : Buffers) (ws hs : List Word) (wi or : List ℕ) : Type 0 w
 module _ {t : ℕ} {o : Act State End} {next : Regs} {ws hs : List Word} {wi or : List ℕ} (l : Leads t o next ws hs wi or)
     {lim : Limits} {r : Regs} {q : Turn} where
   -- a limit is broken, and nothing was written
-  pub settle_no : (b : Buffers) → Charging lim r t next q → q.go ≡ false → Turned lim r b o q b
+  pub settle_no : (b : Buffers) → Charging lim r t next q → goes_on q ≡ false → Turned lim r b o q b
   settle_no b (turns.late p e) g = turns.late t (core next ws hs wi or false) l.same p e refl
   settle_no b (turns.deep p k e) g = turns.deep t (core next ws hs wi or false) l.same p (rw l.sp at k) e refl
   settle_no b (turns.full p k m e) g =
       turns.full t (core next ws hs wi or false) l.same p (rw l.sp at k) (rw l.hp at m) e refl
-  settle_no b (turns.pays p k m e) g = absurd (true≢false (sym (ap (λ (x : Turn). x.go) e) ∙ g))
+  settle_no b (turns.pays p k m e) g = absurd (true≢false (sym (ap goes_on e) ∙ g))
 
   -- it is paid for, and what was written bears the next state
-  pub settle_yes : (b b' : Buffers) → Charging lim r t next q → q.go ≡ true
+  pub settle_yes : (b b' : Buffers) → Charging lim r t next q → goes_on q ≡ true
       → (next.sp ≤ lim.stack → next.hp ≤ lim.heap → Borne b' ws hs wi or) → Turned lim r b o q b'
-  settle_yes b b' (turns.late p e) g w = absurd (false≢true (sym (ap (λ (x : Turn). x.go) e) ∙ g))
-  settle_yes b b' (turns.deep p k e) g w = absurd (false≢true (sym (ap (λ (x : Turn). x.go) e) ∙ g))
-  settle_yes b b' (turns.full p k m e) g w = absurd (false≢true (sym (ap (λ (x : Turn). x.go) e) ∙ g))
+  settle_yes b b' (turns.late p e) g w = absurd (false≢true (sym (ap goes_on e) ∙ g))
+  settle_yes b b' (turns.deep p k e) g w = absurd (false≢true (sym (ap goes_on e) ∙ g))
+  settle_yes b b' (turns.full p k m e) g w = absurd (false≢true (sym (ap goes_on e) ∙ g))
   settle_yes b b' (turns.pays p k m e) g w =
       let z = w k m in
       went t (core next ws hs wi or false) l.same
@@ -61,9 +61,9 @@ module _ {t : ℕ} {o : Act State End} {next : Regs} {ws hs : List Word} {wi or 
   -- nothing is written whether or not it is paid for
   pub settled : (b : Buffers) → Charging lim r t next q
       → (next.sp ≤ lim.stack → next.hp ≤ lim.heap → Borne b ws hs wi or) → Turned lim r b o q b
-  settled b c w = by q.go refl
+  settled b c w = by (goes_on q) refl
     where
-      by : (g : Bool) → q.go ≡ g → Turned lim r b o q b
+      by : (g : Bool) → goes_on q ≡ g → Turned lim r b o q b
       by true e = settle_yes b b c e w
       by false e = settle_no b c e
 
@@ -72,11 +72,11 @@ pub record Paid (lim : Limits) (next : Regs) : Type 0 where
   pub depth : next.sp ≤ lim.stack
   pub heap : next.hp ≤ lim.heap
 
-pub went_on : {lim : Limits} {r : Regs} {t : ℕ} {next : Regs} {q : Turn} → Charging lim r t next q → q.go ≡ true
+pub went_on : {lim : Limits} {r : Regs} {t : ℕ} {next : Regs} {q : Turn} → Charging lim r t next q → goes_on q ≡ true
     → Paid lim next
-went_on (turns.late p e) g = absurd (false≢true (sym (ap (λ (x : Turn). x.go) e) ∙ g))
-went_on (turns.deep p k e) g = absurd (false≢true (sym (ap (λ (x : Turn). x.go) e) ∙ g))
-went_on (turns.full p k m e) g = absurd (false≢true (sym (ap (λ (x : Turn). x.go) e) ∙ g))
+went_on (turns.late p e) g = absurd (false≢true (sym (ap goes_on e) ∙ g))
+went_on (turns.deep p k e) g = absurd (false≢true (sym (ap goes_on e) ∙ g))
+went_on (turns.full p k m e) g = absurd (false≢true (sym (ap goes_on e) ∙ g))
 went_on (turns.pays p k m e) g = record { depth = k; heap = m }
 
 -- an ending of the machine's own

@@ -1,5 +1,5 @@
 -- What the registers and the lent slices bear, and what a turn of the code makes of it, said of the machine.
-use Rattle.std.specs.Prelude.{◌≡◌, Bool, true, false, List, [], ◌∷◌, ◌++◌, ℕ, ◌+◌, ◌-◌, ◌≤◌, ◌<◌, max, length, get_or}
+use Rattle.std.specs.Prelude.{◌≡◌, Bool, Some, None, is_none, true, false, List, [], ◌∷◌, ◌++◌, ℕ, ◌+◌, ◌-◌, ◌≤◌, ◌<◌, max, length, get_or}
 use Rattle.limits.specs.Machine.{Act, ends, goes}
 use Rattle.hume.specs.Words.{Word, null, bits}
 use Rattle.hume.specs.State.{State, End, finished, blocked, fault, no_rule, unhandled, Deed, sp, hp, locals, stacks}
@@ -50,12 +50,16 @@ end_of (unhandled n) = ending.Unhandled n
 
 -- "An instruction that gives any ending but 0 changes nothing"
 abbrev pub halt : Regs → Ending → Turn
-halt r e = record { regs = r; go = false; ending = e }
+halt r e = record { regs = r; ending = Some e }
 
 -- it goes on, or has finished
 abbrev pub onward : Bool → Regs → Turn
-onward true r = record { regs = r; go = false; ending = ending.Finished }
-onward false r = record { regs = r; go = true; ending = ending.Finished }
+onward true r = record { regs = r; ending = Some ending.Finished }
+onward false r = record { regs = r; ending = None }
+
+-- whether it goes on
+abbrev pub goes_on : Turn → Bool
+goes_on q = is_none q.ending
 
 -- the next registers, charged
 abbrev pub paid : Regs → ℕ → Regs → Regs

@@ -61,7 +61,7 @@ impl Regs {
         next.hp = hp + 2 + a;
         next.pc = self.pc + 1;
         let turn = self.charge(lim, cost, next);
-        if turn.go {
+        if turn.goes_on() {
             heap[hp] = h;
             heap[hp + 1] = a as u32;
             put_fields(stack, sp, heap, hp + 2, a);
@@ -98,7 +98,7 @@ impl Regs {
         next.sp = low + n;
         next.pc = self.pc + 1;
         let turn = self.charge_depth(lim, cost, next);
-        if turn.go {
+        if turn.goes_on() {
             put_words(heap, at + 2, stack, low, n);
         }
         turn

@@ -58,9 +58,12 @@ impl Regs {
         requires { Fit lim self }
         ensures { (st he wi or : List ℕ) → Meets lim self (buffers st he wi or) (priced cost Schedule) result (buffers st he wi or) }
     {
-        let mut turn = self.charge_time(lim, cost, self);
-        turn.go = false;
-        turn
+        let turn = self.charge_time(lim, cost, self);
+        let ending = turn.ending.unwrap_or(Ending::Finished);
+        Turn {
+            regs: turn.regs,
+            ending: Some(ending),
+        }
     }
 
     // "16 If b [-1] jumps on true"
@@ -121,7 +124,7 @@ impl Regs {
         next.rp = 0;
         next.rs = a;
         let turn = self.charge_depth(lim, cost, next);
-        if turn.go {
+        if turn.goes_on() {
             stack[sp] = (805306368 + (self.pc + 1)) as u32;
             stack[sp + 1] = (1073741824 + (self.rs * 256 + self.rp)) as u32;
             stack[sp + 2] = (1342177280 + self.slp) as u32;
@@ -156,7 +159,7 @@ impl Regs {
         next.lp = locals_end(stack, back);
         next.sp = fp - 3;
         let turn = self.charge_time(lim, cost, next);
-        if turn.go {
+        if turn.goes_on() {
             stack[fp - 4] = top;
         }
         turn

@@ -135,14 +135,12 @@ fn run_accepted(
     };
     let first = begin(entry_of(image, &at, 0), t);
     let cycles = CYCLES;
-    let turn = first.run(
+    let (last, ending) = first.run(
         lim, fixed, image, &at, &orders, card, &cycles, stack, heap, wires, order,
     );
-    let last = turn.regs;
-    let e = turn.ending;
     wipe(stack, last.sp);
     wipe(heap, last.hp);
-    sum_up(e, last, t)
+    sum_up(ending, last, t)
 }
 
 // One box, one activation, from empty stack and heap to an ending: any image, card, limits, areas, wires and order may be handed in.

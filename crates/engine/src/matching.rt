@@ -296,7 +296,7 @@ impl Regs {
         let mut next = self;
         next.pc = self.pc + 1;
         let turn = self.charge_time(lim, cost, next);
-        if turn.go {
+        if turn.goes_on() {
             let count = count_of(image, at, rs);
             if self.rp < count {
                 let from = orders[rs];

@@ -43,7 +43,7 @@ impl Regs {
         next.sp = sp + 1;
         next.pc = self.pc + 1;
         let turn = self.charge_depth(lim, cost, next);
-        if turn.go {
+        if turn.goes_on() {
             stack[sp] = w;
         }
         turn
@@ -100,7 +100,7 @@ impl Regs {
         next.sp = sp - a;
         next.pc = self.pc + 1;
         let turn = self.charge_time(lim, cost, next);
-        if turn.go {
+        if turn.goes_on() {
             stack[sp - (a + 1)] = top;
         }
         turn
@@ -136,7 +136,7 @@ impl Regs {
         next.sp = sp + a;
         next.pc = self.pc + 1;
         let turn = self.charge_depth(lim, cost, next);
-        if turn.go {
+        if turn.goes_on() {
             blank(stack, sp, a);
         }
         turn
@@ -160,7 +160,7 @@ impl Regs {
         next.lp = fp + a;
         next.pc = self.pc + 1;
         let turn = self.charge_depth(lim, cost, next);
-        if turn.go {
+        if turn.goes_on() {
             stack[sp] = (1610612736 + (self.fp * 256 + a)) as u32;
             blank(stack, fp, a);
         }
@@ -200,7 +200,7 @@ impl Regs {
         next.sp = sp - 1;
         next.pc = self.pc + 1;
         let turn = self.charge_time(lim, cost, next);
-        if turn.go {
+        if turn.goes_on() {
             stack[fp + a] = top;
         }
         turn

@@ -336,7 +336,7 @@ impl Regs {
         next.hp = hp + 2;
         next.pc = self.pc + 1;
         let turn = self.charge(lim, cost, next);
-        if turn.go {
+        if turn.goes_on() {
             heap[hp] = h;
             heap[hp + 1] = x;
             stack[low] = 268435456 + hp as u32;
@@ -377,7 +377,7 @@ impl Regs {
         next.rp = 0;
         next.rs = handler;
         let turn = self.charge(lim, cost, next);
-        if turn.go {
+        if turn.goes_on() {
             heap[hp] = 393216 + e;
             heap[hp + 1] = 1;
             heap[hp + 2] = w;

@@ -1,6 +1,6 @@
 // The registers by value, what a turn of the machine gives back, and what an instruction costs.
 ghost use Rattle.std.specs.Prelude.{◌≡◌, ◌≤◌, ◌<◌, max};
-ghost use Rattle.engine.specs.Turns.{Charging, halt};
+ghost use Rattle.engine.specs.Turns.{Charging, goes_on, halt};
 
 use super::Ending;
 
@@ -28,12 +28,19 @@ pub struct Regs {
     pub peak: usize,
 }
 
-// The registers after a turn, and whether the machine goes on; where it doesn't, how it ended.
+// The registers after a turn, and how the machine ended, if it did.
 #[derive(Clone, Copy)]
 pub struct Turn {
     pub regs: Regs,
-    pub go: bool,
-    pub ending: Ending,
+    pub ending: Option<Ending>,
+}
+
+impl Turn {
+    pub(crate) fn goes_on(self) -> bool
+        ensures { result ≡ goes_on self }
+    {
+        self.ending.is_none()
+    }
 }
 
 impl Regs {
@@ -43,8 +50,7 @@ impl Regs {
     {
         Turn {
             regs: self,
-            go: false,
-            ending: e,
+            ending: Some(e),
         }
     }
 
@@ -71,8 +77,7 @@ impl Regs {
         }
         Turn {
             regs: paid,
-            go: true,
-            ending: Ending::Finished,
+            ending: None,
         }
     }
 
@@ -96,8 +101,7 @@ impl Regs {
         }
         Turn {
             regs: paid,
-            go: true,
-            ending: Ending::Finished,
+            ending: None,
         }
     }
 
@@ -115,8 +119,7 @@ impl Regs {
         paid.peak = self.peak;
         Turn {
             regs: paid,
-            go: true,
-            ending: Ending::Finished,
+            ending: None,
         }
     }
 }

@@ -5,7 +5,8 @@ ghost use Rattle.engine.specs.Outcomes.{cycle_table};
 ghost use Rattle.engine.specs.Running.{Over};
 ghost use Rattle.engine.specs.Underway.{Underway, calls};
 
-use super::regs::{Limits, Regs, Turn};
+use super::Ending;
+use super::regs::{Limits, Regs};
 use super::stepping::Fixed;
 
 impl Regs {
@@ -23,24 +24,21 @@ impl Regs {
         heap: &mut [u32],
         wires: &mut [u32],
         order: &mut [u32],
-    ) -> Turn
+    ) -> (Regs, Ending)
         requires underway { Underway image.now card.now at.now orders.now lim fixed self (buffers stack.old heap.old wires.old order.old) }
         requires table_value { table.now ≡ cycle_table }
-        ensures { (u : Underway image.now card.now at.now orders.now lim fixed self (buffers stack.old heap.old wires.old order.old)) → Over (calls image.now card.now u.limits u.lent) result.regs result.ending (buffers stack.new heap.new wires.new order.new) }
+        ensures { (u : Underway image.now card.now at.now orders.now lim fixed self (buffers stack.old heap.old wires.old order.old)) → Over (calls image.now card.now u.limits u.lent) result.0 result.1 (buffers stack.new heap.new wires.new order.new) }
     {
         let mut s = self;
-        let ending = 'turns: loop {
+        let ending = loop {
             let turn = s.step(
                 lim, fixed, image, at, orders, card, table, stack, heap, wires, order,
             );
-            let e = turn.ending;
-            let next = turn.regs;
-            s = next;
-            let over = !turn.go;
-            if over {
-                break 'turns e;
+            s = turn.regs;
+            if let Some(ending) = turn.ending {
+                break ending;
             }
         };
-        s.halt(ending)
+        (s, ending)
     }
 }

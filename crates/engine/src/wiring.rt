@@ -111,7 +111,7 @@ impl Regs {
         let mut next = self;
         next.pc = self.pc + 1;
         let turn = self.charge_time(lim, cost, next);
-        if turn.go {
+        if turn.goes_on() {
             clear_wire(wires, 65 * a);
         }
         turn
@@ -179,7 +179,7 @@ impl Regs {
         next.hp = hp + grown;
         next.pc = self.pc + 1;
         let turn = self.charge(lim, cost, next);
-        if turn.go {
+        if turn.goes_on() {
             stack[sp] = place(wires, at + 1, heap, hp, hp + grown);
         }
         turn
@@ -217,7 +217,7 @@ impl Regs {
         next.sp = sp - 1;
         next.pc = self.pc + 1;
         let turn = self.charge_time(lim, cost, next);
-        if turn.go {
+        if turn.goes_on() {
             if room.n != 0 {
                 wires[65 * o] = room.n as u32;
             }

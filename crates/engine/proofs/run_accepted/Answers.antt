@@ -22,9 +22,9 @@ entry_of-requires c =
       a_bound = some_ruleset _ _ _ _ _ _ _ _ _ c.requires (bytes_of c.shared_slice_known-1.given);
     }
 
-pub run-turn-requires : goal.run-turn-requires
+pub run-ending-requires : goal.run-ending-requires
 unfolding cycle_table
-run-turn-requires c =
+run-ending-requires c =
     let t : c.args.t < 4294967296 = omega (arith, c.well_formed) in record {
       underway = under _ _ _ _ _ _ _ _ _ c.requires (bytes_of c.shared_slice_known-1.given) (words_of c.slice_known-3-1.given) t _ c.begin-first.ensures c.entry_of.ensures.0 refl refl c.layout-table.ensures c.fix-fixed.ensures;
       table_value = refl;
@@ -32,16 +32,16 @@ run-turn-requires c =
 
 pub wipe-requires : goal.wipe-requires
 wipe-requires c =
-    let t : c.args.t < 4294967296 = omega (arith, c.well_formed) in let o = ran_over _ _ _ _ _ _ _ _ _ c.requires (bytes_of c.shared_slice_known-1.given) (words_of c.slice_known-3-1.given) t _ c.begin-first.ensures c.entry_of.ensures.0 refl refl c.layout-table.ensures c.fix-fixed.ensures c.run-turn.ensures in omega (arith, o.holds.sp, o.holds.stack.room)
+    let t : c.args.t < 4294967296 = omega (arith, c.well_formed) in let o = ran_over _ _ _ _ _ _ _ _ _ c.requires (bytes_of c.shared_slice_known-1.given) (words_of c.slice_known-3-1.given) t _ c.begin-first.ensures c.entry_of.ensures.0 refl refl c.layout-table.ensures c.fix-fixed.ensures c.run-ending.ensures in omega (arith, o.holds.sp, o.holds.stack.room)
 
 pub wipe-requires-2 : goal.wipe-requires-2
 wipe-requires-2 c =
-    let t : c.args.t < 4294967296 = omega (arith, c.well_formed) in let o = ran_over _ _ _ _ _ _ _ _ _ c.requires (bytes_of c.shared_slice_known-1.given) (words_of c.slice_known-3-1.given) t _ c.begin-first.ensures c.entry_of.ensures.0 refl refl c.layout-table.ensures c.fix-fixed.ensures c.run-turn.ensures in omega (arith, o.holds.hp, o.holds.heap.room)
+    let t : c.args.t < 4294967296 = omega (arith, c.well_formed) in let o = ran_over _ _ _ _ _ _ _ _ _ c.requires (bytes_of c.shared_slice_known-1.given) (words_of c.slice_known-3-1.given) t _ c.begin-first.ensures c.entry_of.ensures.0 refl refl c.layout-table.ensures c.fix-fixed.ensures c.run-ending.ensures in omega (arith, o.holds.hp, o.holds.heap.room)
 
 pub sum_up-requires : goal.sum_up-requires
 sum_up-requires c =
-    let t : c.args.t < 4294967296 = omega (arith, c.well_formed) in let o = ran_over _ _ _ _ _ _ _ _ _ c.requires (bytes_of c.shared_slice_known-1.given) (words_of c.slice_known-3-1.given) t _ c.begin-first.ensures c.entry_of.ensures.0 refl refl c.layout-table.ensures c.fix-fixed.ensures c.run-turn.ensures in let s = last_small _ _ _ _ _ _ _ _ _ c.requires (bytes_of c.shared_slice_known-1.given) (words_of c.slice_known-3-1.given) t o in (o.left, s.pc, s.steps, s.peak, s.sp, s.hp)
+    let t : c.args.t < 4294967296 = omega (arith, c.well_formed) in let o = ran_over _ _ _ _ _ _ _ _ _ c.requires (bytes_of c.shared_slice_known-1.given) (words_of c.slice_known-3-1.given) t _ c.begin-first.ensures c.entry_of.ensures.0 refl refl c.layout-table.ensures c.fix-fixed.ensures c.run-ending.ensures in let s = last_small _ _ _ _ _ _ _ _ _ c.requires (bytes_of c.shared_slice_known-1.given) (words_of c.slice_known-3-1.given) t o in (o.left, s.pc, s.steps, s.peak, s.sp, s.hp)
 
 pub returns : goal.returns
 returns c =
-    let t : c.args.t < 4294967296 = omega (arith, c.well_formed) in let o = ran_over _ _ _ _ _ _ _ _ _ c.requires (bytes_of c.shared_slice_known-1.given) (words_of c.slice_known-3-1.given) t _ c.begin-first.ensures c.entry_of.ensures.0 refl refl c.layout-table.ensures c.fix-fixed.ensures c.run-turn.ensures in answered _ _ _ _ _ _ _ _ _ c.requires (bytes_of c.shared_slice_known-1.given) (words_of c.slice_known-3-1.given) t _ _ _ _ _ _ o c.run-turn.auto.stack c.run-turn.auto.heap c.wipe.ensures c.wipe-2.ensures c.sum_up.ensures
+    let t : c.args.t < 4294967296 = omega (arith, c.well_formed) in let o = ran_over _ _ _ _ _ _ _ _ _ c.requires (bytes_of c.shared_slice_known-1.given) (words_of c.slice_known-3-1.given) t _ c.begin-first.ensures c.entry_of.ensures.0 refl refl c.layout-table.ensures c.fix-fixed.ensures c.run-ending.ensures in answered _ _ _ _ _ _ _ _ _ c.requires (bytes_of c.shared_slice_known-1.given) (words_of c.slice_known-3-1.given) t _ _ _ _ _ _ o c.run-ending.auto.stack c.run-ending.auto.heap c.wipe.ensures c.wipe-2.ensures c.sum_up.ensures

@@ -1,13 +1,13 @@
-use mathlib.Core.Path.{refl, ◌∙◌}
+use mathlib.Core.Path.{refl, ◌∙◌, sym}
 use Rattle.engine.proofs.Turning.{settle_yes, settle_no}
 use Rattle.engine.proofs.Outputs.{cleared, consume_leads}
 use Rattle.engine.proofs.regs.Regs.consume.Goals as goal
 
-pub returns-then-turn : goal.returns-then-turn
-returns-then-turn c =
+pub returns-then-goes_on : goal.returns-then-goes_on
+returns-then-goes_on c =
     λ st he or. record {
       each = λ ws hs h m n.
-          settle_yes (consume_leads c.requires.fit h _ or _ _) _ _ c.charge_time-turn.ensures c.if-turn.true
+          settle_yes (consume_leads c.requires.fit h _ or _ _) _ _ c.charge_time-turn.ensures (sym c.goes_on.ensures ∙ c.if-goes_on.true)
           (λ a b. record {
             stack = h.stack;
             heap = h.heap;
@@ -16,9 +16,9 @@ returns-then-turn c =
           });
     }
 
-pub returns-else-turn : goal.returns-else-turn
-returns-else-turn c =
+pub returns-else-goes_on : goal.returns-else-goes_on
+returns-else-goes_on c =
     λ st he or. record {
       each = λ ws hs h m n.
-          settle_no (consume_leads c.requires.fit h _ or _ c.args.a) _ c.charge_time-turn.ensures c.if-turn.false;
+          settle_no (consume_leads c.requires.fit h _ or _ c.args.a) _ c.charge_time-turn.ensures (sym c.goes_on.ensures ∙ c.if-goes_on.false);
     }

@@ -1,4 +1,4 @@
-use mathlib.Core.Path.{refl}
+use mathlib.Core.Path.{refl, sym, ◌∙◌}
 use Prim.Native.Nat.{◌+◌, ◌*◌, ◌≤◌}
 use native.Mathlib.Omega.{arith}
 use lib.ListN.{length}
@@ -35,35 +35,35 @@ overflow_add-next-2 c =
     let few = input_few u in
     omega (arith, c.requires.fit.hp, c.requires.fit.heap_cap)
 
-pub overflow_add-at-then-turn : goal.overflow_add-at-then-turn
-overflow_add-at-then-turn c =
+pub overflow_add-at-then-goes_on : goal.overflow_add-at-then-goes_on
+overflow_add-at-then-goes_on c =
     let u = input_at c.requires.wire_fits c.if-k-eq0.false in omega (arith, u.inside, c.well_formed)
 
 pub overflow_add-hp : goal.overflow_add-hp
 overflow_add-hp c =
-    let pd = went_on c.charge-turn.ensures c.if-turn.true in omega (arith, pd.heap, c.requires.fit.heap_cap)
+    let pd = went_on c.charge-turn.ensures (sym c.goes_on.ensures ∙ c.if-goes_on.true) in omega (arith, pd.heap, c.requires.fit.heap_cap)
 
 pub place-requires : goal.place-requires
 place-requires c =
     let u = input_at c.requires.wire_fits c.if-k-eq0.false in
     let e = input_size u _ c.count_words-grown.ensures in
-    let pd = went_on c.charge-turn.ensures c.if-turn.true in
+    let pd = went_on c.charge-turn.ensures (sym c.goes_on.ensures ∙ c.if-goes_on.true) in
     input_here u _ _ _ (omega (arith, e)) (omega (arith, pd.heap, c.requires.fit.heap_cap)) (omega (arith, pd.heap, c.requires.heap_in_bounds))
 
 pub bounds-stack-sp : goal.bounds-stack-sp
 bounds-stack-sp c =
-    let pd = went_on c.charge-turn.ensures c.if-turn.true in omega (arith, pd.depth, c.requires.stack_in_bounds)
+    let pd = went_on c.charge-turn.ensures (sym c.goes_on.ensures ∙ c.if-goes_on.true) in omega (arith, pd.depth, c.requires.stack_in_bounds)
 
-pub returns-then-turn : goal.returns-then-turn
-returns-then-turn c =
+pub returns-then-goes_on : goal.returns-then-goes_on
+returns-then-goes_on c =
     λ or. record {
       each = λ ws hs h m n.
           let u = input_at c.requires.wire_fits c.if-k-eq0.false in
           let e = input_size u _ c.count_words-grown.ensures in
-          let pd = went_on c.charge-turn.ensures c.if-turn.true in
+          let pd = went_on c.charge-turn.ensures (sym c.goes_on.ensures ∙ c.if-goes_on.true) in
           let fits : c.args.self.hp + size u.value ≤ length c.args.heap.now = omega (arith, e, pd.heap, c.requires.heap_in_bounds) in
           let p = input_placed u (omega (arith, e)) (omega (arith, pd.heap, c.requires.fit.heap_cap)) (omega (arith, pd.heap, c.requires.heap_in_bounds)) c.place.ensures in
-          settle_yes (copy_leads c.requires.fit h _ or _ u _ _ c.if-k-eq0.false e) _ _ c.charge-turn.ensures c.if-turn.true
+          settle_yes (copy_leads c.requires.fit h _ or _ u _ _ c.if-k-eq0.false e) _ _ c.charge-turn.ensures (sym c.goes_on.ensures ∙ c.if-goes_on.true)
           (λ x y. record {
             stack = copy_stack c.requires.fit h _ or c.args.a u p (omega (arith, pd.depth, c.requires.stack_in_bounds));
             heap = copy_heap c.requires.fit h _ or c.args.a u p fits;
@@ -72,11 +72,11 @@ returns-then-turn c =
           });
     }
 
-pub returns-else-turn : goal.returns-else-turn
-returns-else-turn c =
+pub returns-else-goes_on : goal.returns-else-goes_on
+returns-else-goes_on c =
     λ or. record {
       each = λ ws hs h m n.
           let u = input_at c.requires.wire_fits c.if-k-eq0.false in
           let e = input_size u _ c.count_words-grown.ensures in
-          settle_no (copy_leads c.requires.fit h _ or _ u _ _ c.if-k-eq0.false e) _ c.charge-turn.ensures c.if-turn.false;
+          settle_no (copy_leads c.requires.fit h _ or _ u _ _ c.if-k-eq0.false e) _ c.charge-turn.ensures (sym c.goes_on.ensures ∙ c.if-goes_on.false);
     }

@@ -1,4 +1,4 @@
-use mathlib.Core.Path.{refl, sym}
+use mathlib.Core.Path.{refl, sym, ◌∙◌}
 use native.Mathlib.Omega.{arith}
 use lib.ListN.{length-set}
 use lib.Seq.{length-take-le}
@@ -11,24 +11,24 @@ use Rattle.engine.proofs.regs.Regs.give.Goals as goal
 
 pub bounds-heap-hp : goal.bounds-heap-hp
 bounds-heap-hp c =
-    let p = went_on c.charge-turn.ensures c.if-turn.true in omega (arith, p.heap, c.requires.heap_in_bounds)
+    let p = went_on c.charge-turn.ensures (sym c.goes_on.ensures ∙ c.if-goes_on.true) in omega (arith, p.heap, c.requires.heap_in_bounds)
 
-pub bounds-heap-hp-then-turn : goal.bounds-heap-hp-then-turn
-bounds-heap-hp-then-turn c =
-    let p = went_on c.charge-turn.ensures c.if-turn.true in simp length-set (omega (arith, p.heap, c.requires.heap_in_bounds))
+pub bounds-heap-hp-then-goes_on : goal.bounds-heap-hp-then-goes_on
+bounds-heap-hp-then-goes_on c =
+    let p = went_on c.charge-turn.ensures (sym c.goes_on.ensures ∙ c.if-goes_on.true) in simp length-set (omega (arith, p.heap, c.requires.heap_in_bounds))
 
 pub bounds-stack-low : goal.bounds-stack-low
 bounds-stack-low c =
-    let p = went_on c.charge-turn.ensures c.if-turn.true in omega (arith, p.depth, c.requires.stack_in_bounds)
+    let p = went_on c.charge-turn.ensures (sym c.goes_on.ensures ∙ c.if-goes_on.true) in omega (arith, p.depth, c.requires.stack_in_bounds)
 
-pub returns-then-turn : goal.returns-then-turn
-returns-then-turn c =
+pub returns-then-goes_on : goal.returns-then-goes_on
+returns-then-goes_on c =
     λ t k wi or d.
     record {
       each = λ ws hs h m n.
           settle_yes
           (give_leads h wi or c.requires.fit _ t k _ _ _ c.requires.lp_le_low.0 c.requires.lp_le_low.1 d) _
-          _ c.charge-turn.ensures c.if-turn.true
+          _ c.charge-turn.ensures (sym c.goes_on.ensures ∙ c.if-goes_on.true)
           (λ a b.
           record {
             stack =
@@ -44,12 +44,12 @@ returns-then-turn c =
           });
     }
 
-pub returns-else-turn : goal.returns-else-turn
-returns-else-turn c =
+pub returns-else-goes_on : goal.returns-else-goes_on
+returns-else-goes_on c =
     λ t k wi or d.
     record {
       each = λ ws hs h m n.
           settle_no
           (give_leads h wi or c.requires.fit _ t k _ _ _ c.requires.lp_le_low.0 c.requires.lp_le_low.1 d) _
-          c.charge-turn.ensures c.if-turn.false;
+          c.charge-turn.ensures (sym c.goes_on.ensures ∙ c.if-goes_on.false);
     }

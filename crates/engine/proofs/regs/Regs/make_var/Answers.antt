@@ -1,4 +1,4 @@
-use mathlib.Core.Path.{refl}
+use mathlib.Core.Path.{refl, sym, ◌∙◌}
 use native.Mathlib.Omega.{arith}
 use Rattle.engine.proofs.Turning.{settle_yes, settle_no, reads_below}
 use Rattle.engine.proofs.Moving.{make_var_few, make_var_none, make_var_leads, make_var_bears}
@@ -12,10 +12,10 @@ pub returns-then-self-fp : goal.returns-then-self-fp
 returns-then-self-fp c =
     λ he wi or. record { each = λ ws hs h m n. make_var_none c.requires.fit h wi or _ _ c.if-sp-self-lt1.false c.if-self-fp.true c.halt-then-self-fp.ensures }
 
-pub returns-then-turn : goal.returns-then-turn
-returns-then-turn c =
-    λ he wi or. record { each = λ ws hs h m n. settle_yes (make_var_leads c.requires.fit h wi or _ _ c.if-sp-self-lt1.false c.if-self-fp.false) _ _ c.charge_time-turn.ensures c.if-turn.true (λ a b. record { stack = make_var_bears c.requires.fit h wi or _ _ c.if-sp-self-lt1.false c.if-self-fp.false (reads_below h 0 _ (omega (arith, c.if-sp-self-lt1.false)) refl); heap = h.heap; wires = refl; order = refl }) }
+pub returns-then-goes_on : goal.returns-then-goes_on
+returns-then-goes_on c =
+    λ he wi or. record { each = λ ws hs h m n. settle_yes (make_var_leads c.requires.fit h wi or _ _ c.if-sp-self-lt1.false c.if-self-fp.false) _ _ c.charge_time-turn.ensures (sym c.goes_on.ensures ∙ c.if-goes_on.true) (λ a b. record { stack = make_var_bears c.requires.fit h wi or _ _ c.if-sp-self-lt1.false c.if-self-fp.false (reads_below h 0 _ (omega (arith, c.if-sp-self-lt1.false)) refl); heap = h.heap; wires = refl; order = refl }) }
 
-pub returns-else-turn : goal.returns-else-turn
-returns-else-turn c =
-    λ he wi or. record { each = λ ws hs h m n. settle_no (make_var_leads c.requires.fit h wi or _ _ c.if-sp-self-lt1.false c.if-self-fp.false) _ c.charge_time-turn.ensures c.if-turn.false }
+pub returns-else-goes_on : goal.returns-else-goes_on
+returns-else-goes_on c =
+    λ he wi or. record { each = λ ws hs h m n. settle_no (make_var_leads c.requires.fit h wi or _ _ c.if-sp-self-lt1.false c.if-self-fp.false) _ c.charge_time-turn.ensures (sym c.goes_on.ensures ∙ c.if-goes_on.false) }

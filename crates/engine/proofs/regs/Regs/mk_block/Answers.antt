@@ -22,15 +22,15 @@ returns-then-not-all_values c =
 
 pub bounds-heap-hp : goal.bounds-heap-hp
 bounds-heap-hp c =
-    let p = went_on c.charge-turn.ensures c.if-turn.true in omega (arith, p.heap, c.requires.heap_in_bounds)
+    let p = went_on c.charge-turn.ensures (sym c.goes_on.ensures ∙ c.if-goes_on.true) in omega (arith, p.heap, c.requires.heap_in_bounds)
 
-pub bounds-heap-hp-then-turn : goal.bounds-heap-hp-then-turn
-bounds-heap-hp-then-turn c =
-    let p = went_on c.charge-turn.ensures c.if-turn.true in simp length-set (omega (arith, p.heap, c.requires.heap_in_bounds))
+pub bounds-heap-hp-then-goes_on : goal.bounds-heap-hp-then-goes_on
+bounds-heap-hp-then-goes_on c =
+    let p = went_on c.charge-turn.ensures (sym c.goes_on.ensures ∙ c.if-goes_on.true) in simp length-set (omega (arith, p.heap, c.requires.heap_in_bounds))
 
 pub put_fields-requires : goal.put_fields-requires
 put_fields-requires c =
-    let p = went_on c.charge-turn.ensures c.if-turn.true in (
+    let p = went_on c.charge-turn.ensures (sym c.goes_on.ensures ∙ c.if-goes_on.true) in (
       omega (arith, c.if-sp-self.false),
       omega (arith, c.requires.fit.sp, c.requires.stack_in_bounds),
       simp length-set (omega (arith, p.heap, c.requires.heap_in_bounds)),
@@ -38,20 +38,20 @@ put_fields-requires c =
 
 pub bounds-stack-low : goal.bounds-stack-low
 bounds-stack-low c =
-    let p = went_on c.charge-turn.ensures c.if-turn.true in omega (arith, p.depth, c.requires.stack_in_bounds)
+    let p = went_on c.charge-turn.ensures (sym c.goes_on.ensures ∙ c.if-goes_on.true) in omega (arith, p.depth, c.requires.stack_in_bounds)
 
 pub shape_of-heap : goal.shape_of-heap
 shape_of-heap c = c.put_fields.ensures.long ∙ simp length-set
 
-pub returns-then-turn : goal.returns-then-turn
-returns-then-turn c =
+pub returns-then-goes_on : goal.returns-then-goes_on
+returns-then-goes_on c =
     λ wi or.
     record {
       each = λ ws hs h m n.
           settle_yes
           (block_leads c.requires.fit h wi or _ _ _ c.if-sp-self.false
           (sym (c.all_values.ensures ws h.stack m h.sp) ∙ not-false _ c.if-not-all_values.false-raw)) _ _ c.charge-turn.ensures
-          c.if-turn.true
+          (sym c.goes_on.ensures ∙ c.if-goes_on.true)
           (λ a b.
           record {
             stack =
@@ -65,13 +65,13 @@ returns-then-turn c =
           });
     }
 
-pub returns-else-turn : goal.returns-else-turn
-returns-else-turn c =
+pub returns-else-goes_on : goal.returns-else-goes_on
+returns-else-goes_on c =
     λ wi or.
     record {
       each = λ ws hs h m n.
           settle_no
           (block_leads c.requires.fit h wi or _ _ _ c.if-sp-self.false
           (sym (c.all_values.ensures ws h.stack m h.sp) ∙ not-false _ c.if-not-all_values.false-raw)) _ c.charge-turn.ensures
-          c.if-turn.false;
+          (sym c.goes_on.ensures ∙ c.if-goes_on.false);
     }

@@ -1,4 +1,4 @@
-use mathlib.Core.Path.{refl}
+use mathlib.Core.Path.{refl, sym, ◌∙◌}
 use native.Mathlib.Omega.{arith}
 use Rattle.engine.proofs.Turning.{settle_yes, settle_no, went_on}
 use Rattle.engine.proofs.Moving.{push_nulls_leads, push_nulls_bears}
@@ -6,12 +6,12 @@ use Rattle.engine.proofs.regs.Regs.push_nulls.Goals as goal
 
 pub blank-requires : goal.blank-requires
 blank-requires c =
-    let p = went_on c.charge_depth-turn.ensures c.if-turn.true in omega (arith, p.depth, c.requires.stack_in_bounds)
+    let p = went_on c.charge_depth-turn.ensures (sym c.goes_on.ensures ∙ c.if-goes_on.true) in omega (arith, p.depth, c.requires.stack_in_bounds)
 
-pub returns-then-turn : goal.returns-then-turn
-returns-then-turn c =
-    λ he wi or. record { each = λ ws hs h m n. settle_yes (push_nulls_leads c.requires.fit h wi or _ c.args.a) _ _ c.charge_depth-turn.ensures c.if-turn.true (λ a b. record { stack = push_nulls_bears c.requires.fit h wi or c.args.a _ (omega (arith, a, c.requires.stack_in_bounds)) c.blank.ensures; heap = h.heap; wires = refl; order = refl }) }
+pub returns-then-goes_on : goal.returns-then-goes_on
+returns-then-goes_on c =
+    λ he wi or. record { each = λ ws hs h m n. settle_yes (push_nulls_leads c.requires.fit h wi or _ c.args.a) _ _ c.charge_depth-turn.ensures (sym c.goes_on.ensures ∙ c.if-goes_on.true) (λ a b. record { stack = push_nulls_bears c.requires.fit h wi or c.args.a _ (omega (arith, a, c.requires.stack_in_bounds)) c.blank.ensures; heap = h.heap; wires = refl; order = refl }) }
 
-pub returns-else-turn : goal.returns-else-turn
-returns-else-turn c =
-    λ he wi or. record { each = λ ws hs h m n. settle_no (push_nulls_leads c.requires.fit h wi or _ c.args.a) _ c.charge_depth-turn.ensures c.if-turn.false }
+pub returns-else-goes_on : goal.returns-else-goes_on
+returns-else-goes_on c =
+    λ he wi or. record { each = λ ws hs h m n. settle_no (push_nulls_leads c.requires.fit h wi or _ c.args.a) _ c.charge_depth-turn.ensures (sym c.goes_on.ensures ∙ c.if-goes_on.false) }

@@ -1,4 +1,4 @@
-use mathlib.Core.Path.{refl}
+use mathlib.Core.Path.{refl, sym, ◌∙◌}
 use native.Mathlib.Omega.{arith}
 use lib.ListN.{length-set}
 use Rattle.engine.proofs.Turning.{settle_yes, settle_no, went_on}
@@ -13,42 +13,42 @@ returns-then-handler-eq255 c =
 
 pub bounds-heap-hp : goal.bounds-heap-hp
 bounds-heap-hp c =
-    let p = went_on c.charge-turn.ensures c.if-turn.true in omega (arith, p.heap, c.requires.heap_in_bounds)
+    let p = went_on c.charge-turn.ensures (sym c.goes_on.ensures ∙ c.if-goes_on.true) in omega (arith, p.heap, c.requires.heap_in_bounds)
 
-pub bounds-heap-hp-then-turn : goal.bounds-heap-hp-then-turn
-bounds-heap-hp-then-turn c =
-    let p = went_on c.charge-turn.ensures c.if-turn.true in simp length-set (omega (arith, p.heap, c.requires.heap_in_bounds))
+pub bounds-heap-hp-then-goes_on : goal.bounds-heap-hp-then-goes_on
+bounds-heap-hp-then-goes_on c =
+    let p = went_on c.charge-turn.ensures (sym c.goes_on.ensures ∙ c.if-goes_on.true) in simp length-set (omega (arith, p.heap, c.requires.heap_in_bounds))
 
-pub bounds-heap-hp-then-turn-2 : goal.bounds-heap-hp-then-turn-2
-bounds-heap-hp-then-turn-2 c =
-    let p = went_on c.charge-turn.ensures c.if-turn.true in simp length-set (omega (arith, p.heap, c.requires.heap_in_bounds))
+pub bounds-heap-hp-then-goes_on-2 : goal.bounds-heap-hp-then-goes_on-2
+bounds-heap-hp-then-goes_on-2 c =
+    let p = went_on c.charge-turn.ensures (sym c.goes_on.ensures ∙ c.if-goes_on.true) in simp length-set (omega (arith, p.heap, c.requires.heap_in_bounds))
 
 pub bounds-stack-0 : goal.bounds-stack-0
 bounds-stack-0 c =
-    let p = went_on c.charge-turn.ensures c.if-turn.true in omega (arith, p.depth, c.requires.stack_in_bounds)
+    let p = went_on c.charge-turn.ensures (sym c.goes_on.ensures ∙ c.if-goes_on.true) in omega (arith, p.depth, c.requires.stack_in_bounds)
 
 pub bounds-stack-1 : goal.bounds-stack-1
 bounds-stack-1 c =
-    let p = went_on c.charge-turn.ensures c.if-turn.true in simp length-set (omega (arith, p.depth, c.requires.stack_in_bounds))
+    let p = went_on c.charge-turn.ensures (sym c.goes_on.ensures ∙ c.if-goes_on.true) in simp length-set (omega (arith, p.depth, c.requires.stack_in_bounds))
 
 pub bounds-stack-2 : goal.bounds-stack-2
 bounds-stack-2 c =
-    let p = went_on c.charge-turn.ensures c.if-turn.true in simp length-set (omega (arith, p.depth, c.requires.stack_in_bounds))
+    let p = went_on c.charge-turn.ensures (sym c.goes_on.ensures ∙ c.if-goes_on.true) in simp length-set (omega (arith, p.depth, c.requires.stack_in_bounds))
 
 pub bounds-stack-3 : goal.bounds-stack-3
 bounds-stack-3 c =
-    let p = went_on c.charge-turn.ensures c.if-turn.true in simp length-set (omega (arith, p.depth, c.requires.stack_in_bounds))
+    let p = went_on c.charge-turn.ensures (sym c.goes_on.ensures ∙ c.if-goes_on.true) in simp length-set (omega (arith, p.depth, c.requires.stack_in_bounds))
 
 pub bounds-stack-4 : goal.bounds-stack-4
 bounds-stack-4 c =
-    let p = went_on c.charge-turn.ensures c.if-turn.true in simp length-set (omega (arith, p.depth, c.requires.stack_in_bounds))
+    let p = went_on c.charge-turn.ensures (sym c.goes_on.ensures ∙ c.if-goes_on.true) in simp length-set (omega (arith, p.depth, c.requires.stack_in_bounds))
 
-pub returns-then-turn : goal.returns-then-turn
-returns-then-turn c =
+pub returns-then-goes_on : goal.returns-then-goes_on
+returns-then-goes_on c =
     λ P t k wi or d z.
     record {
       each = λ ws hs h m n.
-          settle_yes (raise_leads h wi or P _ t k _ _ _ _ d c.if-handler-eq255.false z) _ _ c.charge-turn.ensures c.if-turn.true
+          settle_yes (raise_leads h wi or P _ t k _ _ _ _ d c.if-handler-eq255.false z) _ _ c.charge-turn.ensures (sym c.goes_on.ensures ∙ c.if-goes_on.true)
           (λ a b.
           record {
             stack =
@@ -62,10 +62,10 @@ returns-then-turn c =
           });
     }
 
-pub returns-else-turn : goal.returns-else-turn
-returns-else-turn c =
+pub returns-else-goes_on : goal.returns-else-goes_on
+returns-else-goes_on c =
     λ P t k wi or d z.
     record {
       each = λ ws hs h m n.
-          settle_no (raise_leads h wi or P _ t k _ _ _ _ d c.if-handler-eq255.false z) _ c.charge-turn.ensures c.if-turn.false;
+          settle_no (raise_leads h wi or P _ t k _ _ _ _ d c.if-handler-eq255.false z) _ c.charge-turn.ensures (sym c.goes_on.ensures ∙ c.if-goes_on.false);
     }

@@ -2,7 +2,7 @@ use Rattle.engine.proofs.Trying.{reorder_leads, reordered_moves, reordered_stays
 use Rattle.engine.proofs.Imaging.{orders_at, orders_room}
 use Rattle.engine.proofs.Turning.{settle_yes, settle_no}
 use native.Mathlib.Omega.{arith}
-use mathlib.Core.Path.{refl}
+use mathlib.Core.Path.{refl, sym, ◌∙◌}
 use Rattle.engine.proofs.regs.Regs.reorder.Goals as goal
 
 pub bounds-orders-rs : goal.bounds-orders-rs
@@ -23,12 +23,12 @@ move_last-requires c =
 
 pub returns-then-self-count : goal.returns-then-self-count
 returns-then-self-count c =
-    λ st he wi. record { each = λ ws hs h m n. settle_yes (reorder_leads h wi _ _ _) _ _ c.charge_time-turn.ensures c.if-turn.true (λ a b. record { stack = h.stack; heap = h.heap; wires = refl; order = reordered_moves h wi _ _ _ _ (orders_at c.requires.imaged c.requires.located c.requires.order_fits c.args.self.rs c.requires.rs_bound) c.count_of-count.ensures.0 c.if-self-count.true c.move_last.ensures }) }
+    λ st he wi. record { each = λ ws hs h m n. settle_yes (reorder_leads h wi _ _ _) _ _ c.charge_time-turn.ensures (sym c.goes_on.ensures ∙ c.if-goes_on.true) (λ a b. record { stack = h.stack; heap = h.heap; wires = refl; order = reordered_moves h wi _ _ _ _ (orders_at c.requires.imaged c.requires.located c.requires.order_fits c.args.self.rs c.requires.rs_bound) c.count_of-count.ensures.0 c.if-self-count.true c.move_last.ensures }) }
 
 pub returns-else-self-count : goal.returns-else-self-count
 returns-else-self-count c =
-    λ st he wi. record { each = λ ws hs h m n. settle_yes (reorder_leads h wi _ _ _) _ _ c.charge_time-turn.ensures c.if-turn.true (λ a b. record { stack = h.stack; heap = h.heap; wires = refl; order = reordered_stays h wi _ _ (rw c.count_of-count.ensures.0 at c.if-self-count.false) }) }
+    λ st he wi. record { each = λ ws hs h m n. settle_yes (reorder_leads h wi _ _ _) _ _ c.charge_time-turn.ensures (sym c.goes_on.ensures ∙ c.if-goes_on.true) (λ a b. record { stack = h.stack; heap = h.heap; wires = refl; order = reordered_stays h wi _ _ (rw c.count_of-count.ensures.0 at c.if-self-count.false) }) }
 
-pub returns-else-turn : goal.returns-else-turn
-returns-else-turn c =
-    λ st he wi. record { each = λ ws hs h m n. settle_no (reorder_leads h wi _ _ _) _ c.charge_time-turn.ensures c.if-turn.false }
+pub returns-else-goes_on : goal.returns-else-goes_on
+returns-else-goes_on c =
+    λ st he wi. record { each = λ ws hs h m n. settle_no (reorder_leads h wi _ _ _) _ c.charge_time-turn.ensures (sym c.goes_on.ensures ∙ c.if-goes_on.false) }

@@ -1,4 +1,4 @@
-use mathlib.Core.Path.{refl}
+use mathlib.Core.Path.{refl, sym, ◌∙◌}
 use native.Mathlib.Omega.{arith}
 use Rattle.engine.proofs.Turning.{settle_yes, settle_no, reads_below}
 use Rattle.engine.proofs.Moving.{slide_few, slide_leads, slide_bears}
@@ -8,10 +8,10 @@ pub returns-then-sp-self : goal.returns-then-sp-self
 returns-then-sp-self c =
     λ he wi or. record { each = λ ws hs h m n. slide_few c.requires.fit h wi or _ _ c.if-sp-self.true c.halt.ensures }
 
-pub returns-then-turn : goal.returns-then-turn
-returns-then-turn c =
-    λ he wi or. record { each = λ ws hs h m n. settle_yes (slide_leads c.requires.fit h wi or _ _ c.if-sp-self.false) _ _ c.charge_time-turn.ensures c.if-turn.true (λ a b. record { stack = slide_bears c.requires.fit h wi or _ _ c.if-sp-self.false (reads_below h 0 _ (omega (arith, c.if-sp-self.false)) refl) (omega (arith, c.requires.fit.sp, c.requires.stack_in_bounds)); heap = h.heap; wires = refl; order = refl }) }
+pub returns-then-goes_on : goal.returns-then-goes_on
+returns-then-goes_on c =
+    λ he wi or. record { each = λ ws hs h m n. settle_yes (slide_leads c.requires.fit h wi or _ _ c.if-sp-self.false) _ _ c.charge_time-turn.ensures (sym c.goes_on.ensures ∙ c.if-goes_on.true) (λ a b. record { stack = slide_bears c.requires.fit h wi or _ _ c.if-sp-self.false (reads_below h 0 _ (omega (arith, c.if-sp-self.false)) refl) (omega (arith, c.requires.fit.sp, c.requires.stack_in_bounds)); heap = h.heap; wires = refl; order = refl }) }
 
-pub returns-else-turn : goal.returns-else-turn
-returns-else-turn c =
-    λ he wi or. record { each = λ ws hs h m n. settle_no (slide_leads c.requires.fit h wi or _ _ c.if-sp-self.false) _ c.charge_time-turn.ensures c.if-turn.false }
+pub returns-else-goes_on : goal.returns-else-goes_on
+returns-else-goes_on c =
+    λ he wi or. record { each = λ ws hs h m n. settle_no (slide_leads c.requires.fit h wi or _ _ c.if-sp-self.false) _ c.charge_time-turn.ensures (sym c.goes_on.ensures ∙ c.if-goes_on.false) }
