@@ -1,6 +1,6 @@
 -- "toFloat.i rounds to nearest, ties to even": the bits of `round binary32 s n 1`, from n's digits.
 use mathlib.Core.Path.{◌≡◌, refl, sym, ap, ap₂, ◌∙◌, subst}
-use mathlib.Core.Bool.{Bool, not, cond}
+use mathlib.Core.Bool.{Bool, true, false, not, cond}
 use Prim.Native.Nat.{ℕ, suc, ◌+◌, ◌-◌, ◌*◌, ◌/◌, ◌%◌, ◌^◌, ◌≤◌, ◌<◌, compare, Ordering}
 use native.Mathlib.Nat.{div-one, lt_of_lt_of_le, mod-eq_of_lt, mul_assoc, mul-div_cancel, mul-le-mul_right, one-mul, add_assoc}
 use native.Mathlib.Decide.{dec_le, dec_lt}
@@ -15,6 +15,7 @@ use lib.Ieee.Digits.{size-lt, size-le}
 use lib.Ieee.Exact.{HasValue, units_val}
 use lib.Ieee.Fits.{core, eq→eqb, round_is, nearest-le, down_pos}
 use lib.Ieee.Nearest.{closest, closest_same, nearest-ge}
+use borrow.Author.Tests.{lt-leb, le-leb}
 use Rattle.hume.specs.Numbers.{int, stored, to_float}
 use Rattle.arith.specs.Rounded.{Nearest}
 use Rattle.arith.proofs.Ints.{below_is}
@@ -143,9 +144,6 @@ module _ (q r : ℕ) (part : r < 256) where
 -- ---- in the code's terms
 
 module _ (n : ℕ) (some : 0 < n) (word : n < 2 ^ 32) where
-  pub few : count_leading_zeros 32 n < 32
-  few = omega (arith, (leading_top 32 n some word).1)
-
   abbrev norm : ℕ
   norm = n * 2 ^ count_leading_zeros 32 n % 2 ^ 32
 
@@ -171,8 +169,8 @@ module _ (n : ℕ) (some : 0 < n) (word : n < 2 ^ 32) where
         bits = λ s. ap (λ (x : ℕ). cond s (2 ^ 31) 0 + x) q ∙ sym (bits_of n j lo hi le s);
       }
 
-  pub answer : (r : ℕ) → r ≡ (157 - count_leading_zeros 32 n) * 2 ^ 23 + kept → Nearest n r
-  answer r e = let t = leading_top 32 n some word in at_size t.0 t.1 t.2 t.3 r e
+  pub nearest_is : (r : ℕ) → r ≡ (157 - count_leading_zeros 32 n) * 2 ^ 23 + kept → Nearest n r
+  nearest_is r e = let t = leading_top 32 n some word in at_size t.0 t.1 t.2 t.3 r e
 
 -- ---- the integer of a word
 
@@ -181,13 +179,20 @@ unfolding of_int
 of_int_lem (pos n) = refl
 of_int_lem (negsuc n) = refl
 
-pub to_float_is : (s : Bool) (a m r : ℕ) → a < 2 ^ 32 → leb (2 ^ 31) a ≡ s → m ≡ nat_abs (int a) → Nearest m r → to_float a ≡ cond s (2 ^ 31) 0 + r
-unfolding to_float
-to_float_is s a m r word e f h =
-    ap stored (of_int_lem (int a))
-    ∙ ap₂ (λ (t : Bool) (n : ℕ). stored (round binary32 t n 1)) (below_is a word ∙ e) (sym f)
-    ∙ sym (h.bits s)
+module _ (a m r : ℕ) (word : a < 2 ^ 32) (e : m ≡ nat_abs (int a)) (h : Nearest m r) where
+  signed_bits : (s : Bool) → leb (2 ^ 31) a ≡ s → cond s (2 ^ 31) 0 + r ≡ to_float a
+  unfolding to_float
+  signed_bits s f =
+      h.bits s
+      ∙ ap₂ (λ (t : Bool) (n : ℕ). stored (round binary32 t n 1)) (sym (below_is a word ∙ f)) e
+      ∙ ap stored (sym (of_int_lem (int a)))
 
-pub to_float_zero : to_float 0 ≡ 0
+  pub to_float_low : a < 2 ^ 31 → r ≡ to_float a
+  to_float_low l = omega (arith, signed_bits false (lt-leb (2 ^ 31) a l))
+
+  pub to_float_high : 2 ^ 31 ≤ a → 2 ^ 31 + r ≡ to_float a
+  to_float_high l = signed_bits true (le-leb (2 ^ 31) a l)
+
+pub to_float_zero : 0 ≡ to_float 0
 unfolding to_float
 to_float_zero = refl
