@@ -1,8 +1,8 @@
 -- Patterns and floats: there is one NaN, and it is stored as 7FC00000.
-use mathlib.Core.Path.{◌≡◌, refl, sym, ◌∙◌, subst}
+use mathlib.Core.Path.{◌≡◌, refl, sym, ◌∙◌}
 use mathlib.Core.Bool.{true}
 use Prim.Native.Nat.{ℕ, ◌%◌, ◌^◌}
-use lib.Dec.{T, ltb}
+use lib.Dec.{ltb}
 use lib.Ieee.{Float, nan, inf, fin, binary32, of_bits, nan_bits, is_nan}
 use lib.Ieee.Bits.{nan_bits_is, nan_bits_above}
 use Rattle.hume.specs.Numbers.{float, stored}
@@ -13,8 +13,8 @@ nan_above a = nan_bits_above binary32 a
 is_nan_lem : (x : Float) → is_nan x ≡ true → x ≡ nan
 unfolding is_nan
 is_nan_lem nan e = refl
-is_nan_lem (inf s) e = absurd (subst T (sym e) tt)
-is_nan_lem (fin s m d) e = absurd (subst T (sym e) tt)
+is_nan_lem (inf s) e = cc
+is_nan_lem (fin s m d) e = cc
 
 one_nan : of_bits binary32 0x7FC00000 ≡ nan
 unfolding of_bits

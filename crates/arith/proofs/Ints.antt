@@ -32,7 +32,7 @@ by_sign P a word low high = go (dec_lt a (2 ^ 31))
     go (no h) = rw (le-ltb a (2 ^ 31) (omega arith)) (high (2 ^ 32 - suc a) (omega arith) (omega arith))
 
 -- its magnitude and whether it is below 0
-pub magnitude_range : (a : ℕ) → a < 2 ^ 32 → nat_abs (int a) ≤ 2 ^ 31
+magnitude_range : (a : ℕ) → a < 2 ^ 32 → nat_abs (int a) ≤ 2 ^ 31
 magnitude_range a word = by_sign (λ x. nat_abs x ≤ 2 ^ 31) a word (λ h. omega arith) (λ m e h. omega arith)
 
 pub below_is : (a : ℕ) → a < 2 ^ 32 → not (non_neg (int a)) ≡ leb (2 ^ 31) a
@@ -62,7 +62,7 @@ module _ (a b : ℕ) (ha : a < 2 ^ 32) (hb : b < 2 ^ 32) where
   mul_is = wrapped _ _ (omega arith) (wrapping_mul-bits w32 a b ha hb)
 
 -- an integer whose magnitude fits, as the word that `cast_unsigned` makes of it
-pub fitting : (z : ℤ) → nat_abs z ≤ 2 ^ 31 → of_z w32 (to_z w32 (of_z w32 z)) ≡ wrap z
+fitting : (z : ℤ) → nat_abs z ≤ 2 ^ 31 → of_z w32 (to_z w32 (of_z w32 z)) ≡ wrap z
 unfolding wrap
 fitting (pos n) h = of_z-to_z w32 n (omega arith) ∙ omega arith
 fitting (negsuc n) h = of_z-to_z w32 (2 ^ 32 - suc n) (omega arith) ∙ omega arith
@@ -83,13 +83,13 @@ abs_neg : (n : ℕ) → nat_abs (neg_ℤ (pos n)) ≡ n
 abs_neg zero = refl
 abs_neg (suc n) = refl
 
-pub quot_within : (x y : ℤ) → nat_abs (quot_z x y) ≤ nat_abs x
+quot_within : (x y : ℤ) → nat_abs (quot_z x y) ≤ nat_abs x
 quot_within (pos a) (pos b) = div-le_self a b
 quot_within (pos a) (negsuc b) = rw (abs_neg (a / suc b)) (div-le_self a (suc b))
 quot_within (negsuc a) (pos b) = rw (abs_neg (suc a / b)) (div-le_self (suc a) b)
 quot_within (negsuc a) (negsuc b) = div-le_self (suc a) (suc b)
 
-pub rem_within : (x y : ℤ) → nat_abs (rem_z x y) ≤ nat_abs x
+rem_within : (x y : ℤ) → nat_abs (rem_z x y) ≤ nat_abs x
 rem_within (pos a) y = mod-le a (nat_abs y)
 rem_within (negsuc a) y = rw (abs_neg (suc a % nat_abs y)) (mod-le (suc a) (nat_abs y))
 

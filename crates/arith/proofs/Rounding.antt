@@ -118,28 +118,20 @@ module _ (n j : ℕ) (lo : 2 ^ j ≤ n) (hi : n < 2 ^ suc j) (fits : j ≤ 31) w
 -- ---- "ties to even", as one sum: r is what is dropped of 256
 
 module _ (q r : ℕ) (part : r < 256) where
-  near_lt : r < 128 → (o : Ordering) → compare (r * 2) 256 ≡ o → nearest q o ≡ q
-  near_lt h Ordering.lt e = refl
-  near_lt h Ordering.eq e = absurd (omega (arith, eqb→eq (r * 2) 256 (subst (λ (o : Ordering). T (compare_is_eq o)) (sym e) tt)))
-  near_lt h Ordering.gt e = absurd (subst (λ (o : Ordering). T (is_le o)) e (le→leb (r * 2) 256 (omega arith)))
-
-  near_gt : 128 < r → (o : Ordering) → compare (r * 2) 256 ≡ o → nearest q o ≡ q + 1
-  near_gt h Ordering.lt e = absurd (omega (arith, leb→le (r * 2) 256 (subst (λ (o : Ordering). T (is_le o)) (sym e) tt)))
-  near_gt h Ordering.eq e = absurd (omega (arith, eqb→eq (r * 2) 256 (subst (λ (o : Ordering). T (compare_is_eq o)) (sym e) tt)))
-  near_gt h Ordering.gt e = omega arith
-
-  near_eq : r ≡ 128 → (o : Ordering) → compare (r * 2) 256 ≡ o → nearest q o ≡ q + q % 2
-  near_eq h Ordering.lt e = absurd (subst (λ (o : Ordering). T (compare_is_eq o)) e (eq→eqb {a = r * 2} {b = 256} (omega arith)))
-  near_eq h Ordering.eq e = refl
-  near_eq h Ordering.gt e = absurd (subst (λ (o : Ordering). T (compare_is_eq o)) e (eq→eqb {a = r * 2} {b = 256} (omega arith)))
+  ties_at : (o : Ordering) → compare (r * 2) 256 ≡ o → nearest q o ≡ q + (r + 127 + q % 2) / 256
+  ties_at Ordering.lt e =
+      let most : r * 2 ≤ 256 = leb→le (r * 2) 256 (subst (λ o. T (is_le o)) (sym e) tt) in
+      let half : r * 2 ≡ 256 → ⊥ = λ h. subst (λ o. T (compare_is_eq o)) e (eq→eqb h) in
+      omega arith
+  ties_at Ordering.eq e =
+      let half : r * 2 ≡ 256 = eqb→eq (r * 2) 256 (subst (λ o. T (compare_is_eq o)) (sym e) tt) in
+      omega arith
+  ties_at Ordering.gt e =
+      let most : r * 2 ≤ 256 → ⊥ = λ h. subst (λ o. T (is_le o)) e (le→leb (r * 2) 256 h) in
+      omega arith
 
   ties : nearest q (compare (r * 2) 256) ≡ q + (r + 127 + q % 2) / 256
-  ties = go (dec_lt r 128) (dec_lt 128 r)
-    where
-      go : Dec (r < 128) → Dec (128 < r) → nearest q (compare (r * 2) 256) ≡ q + (r + 127 + q % 2) / 256
-      go (yes h) k = near_lt h (compare (r * 2) 256) refl ∙ omega arith
-      go (no h) (yes k) = near_gt k (compare (r * 2) 256) refl ∙ omega arith
-      go (no h) (no k) = near_eq (omega arith) (compare (r * 2) 256) refl ∙ omega arith
+  ties = ties_at (compare (r * 2) 256) refl
 
 -- ---- in the code's terms
 

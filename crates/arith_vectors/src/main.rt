@@ -48,8 +48,8 @@ enum Integer {
     Greatest,
     Small,
     MinusSmall,
-    BelowLeast,
-    AboveLeast,
+    NearGreatest,
+    NearLeast,
     Hundreds,
     MinusThousands,
     NearPower,
@@ -66,8 +66,8 @@ const INTEGERS: [Integer; 16] = [
     Integer::Greatest,
     Integer::Small,
     Integer::MinusSmall,
-    Integer::BelowLeast,
-    Integer::AboveLeast,
+    Integer::NearGreatest,
+    Integer::NearLeast,
     Integer::Hundreds,
     Integer::MinusThousands,
     Integer::NearPower,
@@ -92,8 +92,8 @@ impl Class for Integer {
             Integer::Greatest => (1 << 31) - 1,
             Integer::Small => w % 32,
             Integer::MinusSmall => (w % 32).wrapping_neg(),
-            Integer::BelowLeast => (1 << 31) - w % 32,
-            Integer::AboveLeast => (1 << 31) + w % 32,
+            Integer::NearGreatest => (1 << 31) - w % 32,
+            Integer::NearLeast => (1 << 31) + w % 32,
             Integer::Hundreds => w % 1000,
             Integer::MinusThousands => (w % 70000).wrapping_neg(),
             // from 8 below to 7 above it
@@ -147,12 +147,12 @@ const FLOATS: [Float; 16] = [
     Float::Any,
 ];
 
-// A float's bits: that of its sign, and those of its digits, below the exponent's field.
+// The bit of a float's sign, and those of its digits. Between them lies the exponent's field.
 const SIGN: u32 = 0x8000_0000;
 
 const DIGITS: u32 = 0x007F_FFFF;
 
-// Those of a float of the sign of w.
+// The bits of a float of the sign of w.
 fn float_bits(w: u32, exponent: u32, digits: u32) -> u32 {
     (w & SIGN) | (exponent % 256) << 23 | (digits & DIGITS)
 }
@@ -187,10 +187,12 @@ fn around(n: u32) -> u32 {
 
 // ---- sums
 
-// The sum with one result more: h * 16777619 + r modulo the prime 4294967311. One result that differs always shows, and
-// of several it is as good as certain: in a power of two, an even number of wrong signs would not show.
+const PRIME: u64 = 4294967311;
+
+// The sum with one result more: h * 16777619 + r modulo the prime. One result that differs always shows, and of several it
+// is as good as certain: in a power of two, an even number of wrong signs would not show.
 fn fold(h: u64, r: u32) -> u64 {
-    (h % 4294967311 * 16777619 + u64::from(r)) % 4294967311
+    (h % PRIME * 16777619 + u64::from(r)) % PRIME
 }
 
 fn line(rt: &impl Print, op: u8, part: u8, h: u64) -> io::Result<()> {
