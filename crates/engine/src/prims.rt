@@ -14,8 +14,8 @@ use super::Ending;
 use super::regs::{Limits, Regs, Turn};
 use super::words::is_value;
 use arith::{
-    add_float, add_int, div_float, div_int, eq_float, le_float, le_int, lt_float, lt_int,
-    mod_int, mul_float, mul_int, sub_float, sub_int, to_float, to_int,
+    add_float, add_int, div_float, div_int, eq_float, le_float, le_int, lt_float, lt_int, mod_int,
+    mul_float, mul_int, sub_float, sub_int, to_float, to_int,
 };
 
 // ---- one primitive
