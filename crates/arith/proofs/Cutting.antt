@@ -30,7 +30,7 @@ value_cut (fin t m e) s a h = ap₂ in_range h.0 (div_same (m * up e) (down e) a
 in_range_lem : (s : Bool) (m : ℕ) → m < 2 ^ 31 → in_range s m ≡ some (signed s m)
 unfolding in_range signed
 in_range_lem true m h = rw (le-leb m (2 ^ 31) (omega arith)) refl
-in_range_lem false m h = rw (lt-ltb m (2 ^ 31) h) (ap some (sym (signed_no false m refl (omega arith))))
+in_range_lem false m h = rw (lt-ltb m (2 ^ 31) h) (ap some (signed_no false m refl (omega arith)))
 
 out_low : (m : ℕ) → 2 ^ 31 ≤ m → in_range false m ≡ none
 unfolding in_range
@@ -99,13 +99,14 @@ part_large t x k h =
 -- ---- in the code's terms
 
 -- 32 digits moved down
-pub dropped_is : (d x : ℕ) → 9 ≤ x → x ≤ 158 → d * 256 / 2 ^ (158 - x) ≡ d * 2 ^ (x - 1) / 2 ^ 149
-dropped_is d x lo hi =
+pub dropped_is : (d x : ℕ) → d < 2 ^ 24 → 127 ≤ x → x < 158 → d * 256 % 2 ^ 32 / 2 ^ (158 - x) ≡ d * 2 ^ (x - 1) / 2 ^ 149
+dropped_is d x few lo hi =
     let e : 158 - x + (x - 9) ≡ 149 = omega arith in
     let f : 8 + (x - 9) ≡ x - 1 = omega arith in
     let p : 2 ^ 149 ≡ 2 ^ (158 - x) * 2 ^ (x - 9) = sym (sym (pow-add 2 (158 - x) (x - 9)) ∙ ap (λ (k : ℕ). 2 ^ k) e) in
     let q : d * 2 ^ (x - 1) ≡ d * 256 * 2 ^ (x - 9) = sym (mul_assoc d 256 (2 ^ (x - 9)) ∙ ap (λ (k : ℕ). d * k) (sym (pow-add 2 8 (x - 9)) ∙ ap (λ (k : ℕ). 2 ^ k) f)) in
-    sym (ap₂ (λ (n m : ℕ). n / m) q p ∙ mul-div-mul_right (d * 256) (2 ^ (158 - x)) (pow_pos (x - 9)))
+    let w : d * 256 % 2 ^ 32 ≡ d * 256 = omega arith in
+    ap (λ (n : ℕ). n / 2 ^ (158 - x)) w ∙ sym (ap₂ (λ (n m : ℕ). n / m) q p ∙ mul-div-mul_right (d * 256) (2 ^ (158 - x)) (pow_pos (x - 9)))
 
 -- bounds on a number p that `omega` must not see as it is written
 at_least : (d p : ℕ) → 2 ^ 23 ≤ d → d * 2 ^ 8 ≤ p → 2 ^ 31 ≤ p
@@ -164,3 +165,5 @@ module _ (a : ℕ) where
 pub lowest : to_int 3472883712 ≡ some 2147483648
 unfolding to_int
 lowest = refl
+
+pub ruleset cuts = (below_one, whole_part, beyond, lowest)

@@ -1,6 +1,6 @@
 -- "toFloat.i rounds to nearest, ties to even": the bits of `round binary32 s n 1`, from n's digits.
 use mathlib.Core.Path.{◌≡◌, refl, sym, ap, ap₂, ◌∙◌, subst}
-use mathlib.Core.Bool.{Bool, not, cond}
+use mathlib.Core.Bool.{Bool, true, false, not, cond}
 use Prim.Native.Nat.{ℕ, suc, ◌+◌, ◌-◌, ◌*◌, ◌/◌, ◌%◌, ◌^◌, ◌≤◌, ◌<◌, compare, Ordering}
 use native.Mathlib.Nat.{div-one, lt_of_lt_of_le, mod-eq_of_lt, mul_assoc, mul-div_cancel, mul-le-mul_right, one-mul, add_assoc}
 use native.Mathlib.Decide.{dec_le, dec_lt}
@@ -15,6 +15,7 @@ use lib.Ieee.Digits.{size-lt, size-le}
 use lib.Ieee.Exact.{HasValue, units_val}
 use lib.Ieee.Fits.{core, eq→eqb, round_is, nearest-le, down_pos}
 use lib.Ieee.Nearest.{closest, closest_same, nearest-ge}
+use borrow.Author.Tests.{lt-leb, le-leb}
 use Rattle.hume.specs.Numbers.{int, stored, to_float}
 use Rattle.arith.specs.Rounded.{Nearest}
 use Rattle.arith.proofs.Ints.{below_is}
@@ -117,35 +118,24 @@ module _ (n j : ℕ) (lo : 2 ^ j ≤ n) (hi : n < 2 ^ suc j) (fits : j ≤ 31) w
 -- ---- "ties to even", as one sum: r is what is dropped of 256
 
 module _ (q r : ℕ) (part : r < 256) where
-  near_lt : r < 128 → (o : Ordering) → compare (r * 2) 256 ≡ o → nearest q o ≡ q
-  near_lt h Ordering.lt e = refl
-  near_lt h Ordering.eq e = absurd (omega (arith, eqb→eq (r * 2) 256 (subst (λ (o : Ordering). T (compare_is_eq o)) (sym e) tt)))
-  near_lt h Ordering.gt e = absurd (subst (λ (o : Ordering). T (is_le o)) e (le→leb (r * 2) 256 (omega arith)))
-
-  near_gt : 128 < r → (o : Ordering) → compare (r * 2) 256 ≡ o → nearest q o ≡ q + 1
-  near_gt h Ordering.lt e = absurd (omega (arith, leb→le (r * 2) 256 (subst (λ (o : Ordering). T (is_le o)) (sym e) tt)))
-  near_gt h Ordering.eq e = absurd (omega (arith, eqb→eq (r * 2) 256 (subst (λ (o : Ordering). T (compare_is_eq o)) (sym e) tt)))
-  near_gt h Ordering.gt e = omega arith
-
-  near_eq : r ≡ 128 → (o : Ordering) → compare (r * 2) 256 ≡ o → nearest q o ≡ q + q % 2
-  near_eq h Ordering.lt e = absurd (subst (λ (o : Ordering). T (compare_is_eq o)) e (eq→eqb {a = r * 2} {b = 256} (omega arith)))
-  near_eq h Ordering.eq e = refl
-  near_eq h Ordering.gt e = absurd (subst (λ (o : Ordering). T (compare_is_eq o)) e (eq→eqb {a = r * 2} {b = 256} (omega arith)))
+  ties_at : (o : Ordering) → compare (r * 2) 256 ≡ o → nearest q o ≡ q + (r + 127 + q % 2) / 256
+  ties_at Ordering.lt e =
+      let most : r * 2 ≤ 256 = leb→le (r * 2) 256 (subst (λ o. T (is_le o)) (sym e) tt) in
+      let half : r * 2 ≡ 256 → ⊥ = λ h. subst (λ o. T (compare_is_eq o)) e (eq→eqb h) in
+      omega arith
+  ties_at Ordering.eq e =
+      let half : r * 2 ≡ 256 = eqb→eq (r * 2) 256 (subst (λ o. T (compare_is_eq o)) (sym e) tt) in
+      omega arith
+  ties_at Ordering.gt e =
+      let most : r * 2 ≤ 256 → ⊥ = λ h. subst (λ o. T (is_le o)) e (le→leb (r * 2) 256 h) in
+      omega arith
 
   ties : nearest q (compare (r * 2) 256) ≡ q + (r + 127 + q % 2) / 256
-  ties = go (dec_lt r 128) (dec_lt 128 r)
-    where
-      go : Dec (r < 128) → Dec (128 < r) → nearest q (compare (r * 2) 256) ≡ q + (r + 127 + q % 2) / 256
-      go (yes h) k = near_lt h (compare (r * 2) 256) refl ∙ omega arith
-      go (no h) (yes k) = near_gt k (compare (r * 2) 256) refl ∙ omega arith
-      go (no h) (no k) = near_eq (omega arith) (compare (r * 2) 256) refl ∙ omega arith
+  ties = ties_at (compare (r * 2) 256) refl
 
 -- ---- in the code's terms
 
 module _ (n : ℕ) (some : 0 < n) (word : n < 2 ^ 32) where
-  pub few : count_leading_zeros 32 n < 32
-  few = omega (arith, (leading_top 32 n some word).1)
-
   abbrev norm : ℕ
   norm = n * 2 ^ count_leading_zeros 32 n % 2 ^ 32
 
@@ -171,8 +161,8 @@ module _ (n : ℕ) (some : 0 < n) (word : n < 2 ^ 32) where
         bits = λ s. ap (λ (x : ℕ). cond s (2 ^ 31) 0 + x) q ∙ sym (bits_of n j lo hi le s);
       }
 
-  pub answer : (r : ℕ) → r ≡ (157 - count_leading_zeros 32 n) * 2 ^ 23 + kept → Nearest n r
-  answer r e = let t = leading_top 32 n some word in at_size t.0 t.1 t.2 t.3 r e
+  pub nearest_is : (r : ℕ) → r ≡ (157 - count_leading_zeros 32 n) * 2 ^ 23 + kept → Nearest n r
+  nearest_is r e = let t = leading_top 32 n some word in at_size t.0 t.1 t.2 t.3 r e
 
 -- ---- the integer of a word
 
@@ -181,13 +171,20 @@ unfolding of_int
 of_int_lem (pos n) = refl
 of_int_lem (negsuc n) = refl
 
-pub to_float_is : (s : Bool) (a m r : ℕ) → a < 2 ^ 32 → leb (2 ^ 31) a ≡ s → m ≡ nat_abs (int a) → Nearest m r → to_float a ≡ cond s (2 ^ 31) 0 + r
-unfolding to_float
-to_float_is s a m r word e f h =
-    ap stored (of_int_lem (int a))
-    ∙ ap₂ (λ (t : Bool) (n : ℕ). stored (round binary32 t n 1)) (below_is a word ∙ e) (sym f)
-    ∙ sym (h.bits s)
+module _ (a m r : ℕ) (word : a < 2 ^ 32) (e : m ≡ nat_abs (int a)) (h : Nearest m r) where
+  signed_bits : (s : Bool) → leb (2 ^ 31) a ≡ s → cond s (2 ^ 31) 0 + r ≡ to_float a
+  unfolding to_float
+  signed_bits s f =
+      h.bits s
+      ∙ ap₂ (λ (t : Bool) (n : ℕ). stored (round binary32 t n 1)) (sym (below_is a word ∙ f)) e
+      ∙ ap stored (sym (of_int_lem (int a)))
 
-pub to_float_zero : to_float 0 ≡ 0
+  pub to_float_low : a < 2 ^ 31 → r ≡ to_float a
+  to_float_low l = omega (arith, signed_bits false (lt-leb (2 ^ 31) a l))
+
+  pub to_float_high : 2 ^ 31 ≤ a → 2 ^ 31 + r ≡ to_float a
+  to_float_high l = signed_bits true (le-leb (2 ^ 31) a l)
+
+pub to_float_zero : 0 ≡ to_float 0
 unfolding to_float
 to_float_zero = refl

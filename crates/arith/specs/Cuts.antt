@@ -1,9 +1,7 @@
 -- What `to_int` answers, as the option that document 01's toInt.f is defined by.
-use Rattle.std.specs.Prelude.{ℕ}
-use Rattle.std.proofs.Math.Option.{Option, none, some}
-use Rattle.arith.specs.declared.Cut.{Cut}
-use Rattle.arith.specs.declared.Cut.TheVariants.{Whole, Out}
+use Rattle.std.specs.Prelude.{ℕ, Option, Some, None}
+use Rattle.std.proofs.Math.Option as maybe
 
-unfoldable pub cut : Cut → Option ℕ
-cut (Whole w) = some w
-cut Out = none
+abbrev pub cut : Option ℕ → maybe.Option ℕ
+cut (Some w) = maybe.some w
+cut None = maybe.none

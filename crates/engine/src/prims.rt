@@ -14,8 +14,8 @@ use super::Ending;
 use super::regs::{Limits, Regs, Turn};
 use super::words::is_value;
 use arith::{
-    Cut, add_float, add_int, div_float, div_int, eq_float, le_float, le_int, lt_float, lt_int,
-    mod_int, mul_float, mul_int, sub_float, sub_int, to_float, to_int,
+    add_float, add_int, div_float, div_int, eq_float, le_float, le_int, lt_float, lt_int, mod_int,
+    mul_float, mul_int, sub_float, sub_int, to_float, to_int,
 };
 
 // ---- one primitive
@@ -113,15 +113,15 @@ fn divided(h: u32, y: u32, v: u32) -> Yielded
 }
 
 // "NaN or outside -2^31..2^31-1 raises exception 2"
-fn converted(h: u32, c: Cut) -> Yielded
+fn converted(h: u32, c: Option<u32>) -> Yielded
     ensures { result ≡ cutting h (cut c) }
 {
     if h != 196608 {
         return wrong();
     }
     match c {
-        Cut::Whole(n) => value(131072, n),
-        Cut::Out => raising(2),
+        Some(n) => value(131072, n),
+        None => raising(2),
     }
 }
 
