@@ -1,5 +1,5 @@
 -- Parts of the image's tests, as the checks take them one after the other.
-use Rattle.std.specs.Prelude.{◌≡◌, Bool, ◌&&◌, ◌||◌, List, ℕ, zero, suc, ◌+◌, ◌*◌, ◌/◌, ◌%◌, ◌<◌, leb, ltb, eqb, length, get_or}
+use Rattle.std.specs.Prelude.{◌≡◌, Bool, ◌&&◌, Option, Some, None, ◌||◌, List, ℕ, zero, suc, ◌+◌, ◌*◌, ◌/◌, ◌%◌, ◌<◌, leb, ltb, eqb, length, get_or}
 use Rattle.hume.specs.Tests.{pick, every}
 use Rattle.hume.specs.Image.{Program, program, byte, half, ruleset_at, order_at}
 use Rattle.hume.specs.Refusals.{Field, Fields, fields, unused, anything, truth, address, input, output, callee, primitive1, primitive2, field_ok, format_of, opcode_ok, ruleset_ok}
@@ -20,13 +20,13 @@ ranges_ok inputs outputs rulesets handler size =
 abbrev pub count_ok : Program → ℕ → Bool
 count_ok P r = leb 1 (P.count r) && leb (P.count r) 16
 
--- where the first n rulesets end, or 0 where one has a rule count outside its range
-abbrev pub counts_end : List ℕ → ℕ → ℕ
-counts_end m n = pick (every n (count_ok (program m))) (ruleset_at m n) 0
+-- where the first n rulesets end, unless one has a rule count outside its range
+abbrev pub counts_end : List ℕ → ℕ → Option ℕ
+counts_end m n = pick (every n (count_ok (program m))) (Some (ruleset_at m n)) None
 
--- where the rulesets end, or 0 where one has an address that is no instruction's
-abbrev pub addresses_end : List ℕ → ℕ
-addresses_end m = pick (every (program m).rulesets (ruleset_ok (program m))) (ruleset_at m (byte m 7)) 0
+-- where the rulesets end, unless one has an address that is no instruction's
+abbrev pub addresses_end : List ℕ → Option ℕ
+addresses_end m = pick (every (program m).rulesets (ruleset_ok (program m))) (Some (ruleset_at m (byte m 7))) None
 
 -- n addresses from the place p on
 unfoldable pub rules_ok : List ℕ → ℕ → ℕ → ℕ → Bool

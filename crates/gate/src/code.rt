@@ -1,5 +1,5 @@
 // Document 01, "The image": addresses and instructions.
-ghost use Rattle.std.specs.Prelude.{◌≡◌, ◌&&◌, ◌+◌, ◌≤◌, ◌<◌, ◌^◌};
+ghost use Rattle.std.specs.Prelude.{◌≡◌, ◌&&◌, ◌+◌, ◌≤◌, ◌<◌, ◌^◌, IfSome};
 ghost use Rattle.hume.specs.Tests.{every};
 ghost use Rattle.hume.specs.Image.{program, byte, half, full, ruleset_at};
 ghost use Rattle.hume.specs.Refusals.{field_ok, format_of, instruction_ok, last_ok, code_ok};
@@ -131,26 +131,22 @@ fn rules_ok(image: &[u8], at: usize, n: usize, size: usize) -> bool
     true
 }
 
-// Where the rulesets end, or 0 where one has an address that is no instruction's.
-fn addresses_end(image: &[u8]) -> usize
-    ensures { Read (addresses_end image.now) (2 ^ 20) result }
+// Where the rulesets end, unless one has an address that is no instruction's.
+fn addresses_end(image: &[u8]) -> Option<usize>
+    ensures is { result ≡ addresses_end image.now }
+    ensures small { IfSome result (λ end. end < 2 ^ 20) }
 {
     let rulesets = byte_at(image, 7);
     let size = half_at(image, 9);
     let mut at = 11;
-    let mut r = 0;
-    while r < rulesets {
-        if size <= half_at(image, at) {
-            return 0;
-        }
+    for r in 0..rulesets {
         let count = byte_at(image, at + 2);
-        if !rules_ok(image, at + 3, count, size) {
-            return 0;
+        if size <= half_at(image, at) || !rules_ok(image, at + 3, count, size) {
+            return None;
         }
         at += 3 + 2 * count;
-        r += 1;
     }
-    at
+    Some(at)
 }
 
 // The instructions from a place on, and the last of them.
@@ -182,9 +178,8 @@ pub(crate) fn code_ok(image: &[u8]) -> bool
     requires { 1 ≤ (program image.now).size }
     ensures { result ≡ code_ok (program image.now) }
 {
-    let start = addresses_end(image);
-    if start == 0 {
+    let Some(start) = addresses_end(image) else {
         return false;
-    }
+    };
     instructions_ok(image, start)
 }

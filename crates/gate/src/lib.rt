@@ -18,30 +18,19 @@ pub use image::Layout;
 pub use refusals::Refusal;
 
 // "Card: 40 numbers of 32 bits, one per opcode, each 1..65535."
+#[tactic(auto, unfolding(hume::specs::Refusals::card_ok))]
 pub fn card_ok(card: &[u32]) -> bool
     ensures { result ≡ card_ok card.now }
 {
-    if card.len() != 40 {
-        return false;
-    }
-    let mut i = 0;
-    while i < 40 {
-        if card[i] < 1 {
-            return false;
-        }
-        if 65535 < card[i] {
-            return false;
-        }
-        i += 1;
-    }
-    true
+    card.len() == 40 && card.iter().all(|&x| 1 <= x && x <= 65535)
 }
 
 // "stack S (0..4096 words), heap H (0..16384 words). Stack and heap areas: 32-bit words, at least S and H long."
+#[tactic(auto, unfolding(hume::specs::Refusals::limits_ok))]
 pub fn limits_ok(s: u32, h: u32, stack: usize, heap: usize) -> bool
     ensures { result ≡ limits_ok s h stack heap }
 {
-    s <= 4096 && (h <= 16384 && ((s as usize) <= stack && (h as usize) <= heap))
+    s <= 4096 && h <= 16384 && s as usize <= stack && h as usize <= heap
 }
 
 // One pass, also past the last ruleset: what stands there is no matter, and is bounded.
