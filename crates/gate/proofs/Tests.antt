@@ -1,9 +1,12 @@
 -- Laws of tests: what a loop or a chain of tests has found, as an equation of the test.
-use mathlib.Core.Path.{◌≡◌, refl, ap, subst}
+use mathlib.Core.Path.{◌≡◌, refl, sym, ap, ◌∙◌, subst}
+use native.Mathlib.Omega.{arith}
 use mathlib.Core.Bool.{Bool, true, false, ◌&&◌, ◌||◌}
 use mathlib.Core.List.{List, [], ◌∷◌}
 use Rattle.std.specs.Prelude.{Some, None}
-use Rattle.std.specs.List.{list_all}
+use Rattle.std.specs.List.{list_all, range_with_len}
+use Rattle.std.proofs.lemmas.List.FromFn.{length-range_with_len, get_or-range_with_len}
+use Rattle.std.proofs.Common.{zero-add}
 use Prim.Native.Nat.{ℕ, ◌<◌}
 use lib.Dec.{T}
 use lib.ListN.{length, get_or}
@@ -81,3 +84,24 @@ pub all_is : (f : ℕ → Bool) (xs : List ℕ) → list_all f xs ≡ all f xs
 unfolding all
 all_is f [] = refl
 all_is f (x ∷ xs) = ap (λ (t : Bool). f x && t) (all_is f xs)
+
+-- and over the numbers below n
+pub every_is : (n : ℕ) (f : ℕ → Bool) → list_all f (range_with_len 0 n) ≡ every n f
+every_is n f = all_is f (range_with_len 0 n) ∙ both_ways _ _ to from
+  where
+    at : (i : ℕ) → i < n → get_or (range_with_len 0 n) i 0 ≡ i
+    at i h = get_or-range_with_len 0 n i 0 h ∙ zero-add i
+
+    long : length (range_with_len 0 n) ≡ n
+    long = length-range_with_len 0 n
+
+    to : T (all f (range_with_len 0 n)) → T (every n f)
+    to t =
+        every_of n f
+        (λ i h. subst (λ (k : ℕ). T (f k)) (at i h) (all_at f (range_with_len 0 n) 0 t i (omega (arith, long))))
+
+    from : T (every n f) → T (all f (range_with_len 0 n))
+    from t =
+        all_of f (range_with_len 0 n) 0 (λ i h.
+            let b : i < n = omega (arith, long) in
+            subst (λ (k : ℕ). T (f k)) (sym (at i b)) (every_at n f t i b))

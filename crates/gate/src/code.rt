@@ -121,14 +121,7 @@ fn rules_ok(image: &[u8], at: usize, n: usize, size: usize) -> bool
     requires { (at < 2 ^ 32) × (n < 256) }
     ensures { result ≡ rules_ok image.now at n size }
 {
-    let mut k = 0;
-    while k < n {
-        if size <= half_at(image, at + 2 * k) {
-            return false;
-        }
-        k += 1;
-    }
-    true
+    (0..n).all(|k| half_at(image, at + 2 * k) < size)
 }
 
 // Where the rulesets end, unless one has an address that is no instruction's.

@@ -56,11 +56,9 @@ fn ranges_ok(inputs: usize, outputs: usize, rulesets: usize, handler: usize, siz
 {
     inputs <= 8
         && outputs <= 8
-        && 1 <= rulesets
-        && rulesets <= 32
+        && (1..=32).contains(&rulesets)
         && (handler < rulesets || handler == 255)
-        && 1 <= size
-        && size <= 4096
+        && (1..=4096).contains(&size)
 }
 
 // Where the first n rulesets end, if each has a rule count of 1..16.

@@ -22,7 +22,7 @@ pub use refusals::Refusal;
 pub fn card_ok(card: &[u32]) -> bool
     ensures { result ≡ card_ok card.now }
 {
-    card.len() == 40 && card.iter().all(|&x| 1 <= x && x <= 65535)
+    card.len() == 40 && card.iter().all(|x| (1..=65535).contains(x))
 }
 
 // "stack S (0..4096 words), heap H (0..16384 words). Stack and heap areas: 32-bit words, at least S and H long."
