@@ -103,5 +103,5 @@ every_is n f = all_is f (range_with_len 0 n) ∙ both_ways _ _ to from
     from : T (every n f) → T (all f (range_with_len 0 n))
     from t =
         all_of f (range_with_len 0 n) 0 (λ i h.
-            let b : i < n = omega (arith, long) in
-            subst (λ (k : ℕ). T (f k)) (sym (at i b)) (every_at n f t i b))
+        let b : i < n = omega (arith, long) in
+        subst (λ (k : ℕ). T (f k)) (sym (at i b)) (every_at n f t i b))

@@ -14,7 +14,7 @@ returns-then-size-half_at-clause-is c =
     let low : c.loop-r.r < (program c.args.image.now).rulesets =
     omega (arith, c.byte_at-rulesets.ensures.is, c.loop-r-test.true) in
     walked_out _ _ _ _ low (elim c.then-size-half_at.branch [
-      then-size-half_at-via-then-size-half_at w ↦
+      | then-size-half_at-via-then-size-half_at w ↦
           entry_out _ _ _ _ at c.half_at-size.ensures.is _ c.half_at.ensures.is w.if-size-half_at.true
       | then-size-half_at-via-else-size-half_at+then-not-rules_ok w ↦
           rules_are _ _ _ _ at c.half_at-size.ensures.is _ _ c.half_at.ensures.is w.if-size-half_at.false
@@ -26,8 +26,8 @@ loop-r-preserved c =
     let at = c.loop-r.invariant.walked.here in
     record {
       walked = walked_more _ _ _ _ _ c.loop-r.invariant.walked c.byte_at-count.ensures.is
-      (rules_are _ _ _ _ at c.half_at-size.ensures.is _ _ c.half_at.ensures.is c.if-size-half_at.false
-      c.byte_at-count.ensures.is ∙ sym c.rules_ok.ensures ∙ c.if-not-rules_ok.false);
+          (rules_are _ _ _ _ at c.half_at-size.ensures.is _ _ c.half_at.ensures.is c.if-size-half_at.false
+          c.byte_at-count.ensures.is ∙ sym c.rules_ok.ensures ∙ c.if-not-rules_ok.false);
       low = omega arith;
     }
 

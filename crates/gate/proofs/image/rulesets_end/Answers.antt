@@ -16,7 +16,7 @@ loop-r-preserved c =
     let w = c.loop-r.invariant.walked in
     record {
       walked = walked_more _ _ _ _ _ w c.byte_at-count.ensures.is
-      (count_range _ _ _ _ w.here c.byte_at-count.ensures.is ∙ search (rules, tests));
+          (count_range _ _ _ _ w.here c.byte_at-count.ensures.is ∙ search (rules, tests));
       low = omega arith;
     }
 
