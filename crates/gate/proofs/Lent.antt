@@ -1,52 +1,25 @@
 -- Laws of what is lent besides the image.
 use mathlib.Core.Path.{◌≡◌, refl, sym, ap, ◌∙◌, subst}
-use mathlib.Core.Bool.{Bool, true, false, ◌&&◌}
+use mathlib.Core.Bool.{Bool, true, false}
 use mathlib.Core.List.{List, [], ◌∷◌, ◌++◌}
 use Prim.Native.Nat.{ℕ, zero, suc, ◌+◌, ◌-◌, ◌*◌, ◌≤◌, ◌<◌}
 use native.Mathlib.Nat.{not-suc-le-zero}
 use native.Mathlib.Decide.{ℕ_discrete}
 use native.Mathlib.Numerals.{add-one}
 use native.Mathlib.Omega.{arith}
-use borrow.Author.Tests.{eq-eqb, ne_eqb, le-leb, lt-leb}
-use lib.Dec.{T, eqb, leb, eqb→eq}
+use borrow.Author.Tests.{eq-eqb, ne_eqb}
+use lib.Dec.{T, eqb, eqb→eq}
 use lib.ListN.{length, get_or, take, drop, set, length-drop}
 use lib.Seq.{length-take-le, take-suc, get_or-set_same, get_or-set_other}
+use Rattle.hume.specs.Tests.{every}
 use Rattle.hume.specs.Image.{Program, program, byte, order_at}
-use Rattle.hume.specs.Refusals.{image_refusal, card_ok, wires_ok, among, permutation, order_of, order_ok}
+use Rattle.hume.specs.Refusals.{image_refusal, wires_ok, among, permutation, order_of, order_ok}
 use Rattle.hume.specs.Values.{wire_ok}
 use Rattle.laws.proofs.Tests.{to_true, of_true, to_false, OneOf, one, other, or_cases, or_left, eqb_of}
 use Rattle.laws.proofs.Permutation.{permutation_lt, permutation_once, permutation_of, among_left, among_right, among_parts}
 use Rattle.laws.proofs.Passed.{image_passed}
 use Rattle.gate.proofs.Rulesets.{Counted, counted}
-use Rattle.gate.proofs.Tests.{both_ways, and_yes, and_no, every_yes, every_no, all_yes, all_no}
-
--- ---- the card
-
-abbrev pub entry_ok : ℕ → Bool
-entry_ok x = leb 1 x && leb x 65535
-
-module _ (card : List ℕ) where
-  pub card_long : (length card ≡ 40 → ⊥) → card_ok card ≡ false
-  unfolding card_ok
-  card_long n = and_no _ _ (ne_eqb (length card) 40 n)
-
-  module _ (e : length card ≡ 40) where
-    pub card_out : (i : ℕ) → i < 40 → entry_ok (get_or card i 0) ≡ false → card_ok card ≡ false
-    unfolding card_ok
-    card_out i h n = and_yes _ _ (eq-eqb (length card) 40 e) ∙ all_no entry_ok card i (omega arith) n
-
-    pub card_in : ((i : ℕ) → i < 40 → entry_ok (get_or card i 0) ≡ true) → card_ok card ≡ true
-    unfolding card_ok
-    card_in y = and_yes _ _ (eq-eqb (length card) 40 e) ∙ all_yes entry_ok card (λ i h. y i (omega arith))
-
-pub entry_low : (x : ℕ) → x < 1 → entry_ok x ≡ false
-entry_low x h = and_no _ _ (lt-leb 1 x h)
-
-pub entry_high : (x : ℕ) → 65535 < x → entry_ok x ≡ false
-entry_high x h = and_yes _ _ (le-leb 1 x (omega arith)) ∙ lt-leb x 65535 h
-
-pub entry_in : (x : ℕ) → 1 ≤ x → x ≤ 65535 → entry_ok x ≡ true
-entry_in x h k = and_yes _ _ (le-leb 1 x h) ∙ le-leb x 65535 k
+use Rattle.gate.proofs.Tests.{both_ways, and_yes, and_no, every_yes, every_no}
 
 -- ---- the wires
 
@@ -57,20 +30,12 @@ module _ (m w : List ℕ) (n : ℕ) (e : n ≡ (program m).inputs + (program m).
       let P = program m in
       and_no _ _ (ne_eqb (length w) (65 * (P.inputs + P.outputs)) (λ q. k (omega arith)))
 
-  module _ (k : length w ≡ 65 * n) where
-    pub wires_out : (i : ℕ) → i < n → wire_ok w i ≡ false → wires_ok (program m) w ≡ false
-    unfolding wires_ok
-    wires_out i h z =
-        let P = program m in
-        and_yes _ _ (eq-eqb (length w) (65 * (P.inputs + P.outputs)) (omega arith))
-        ∙ every_no (P.inputs + P.outputs) (wire_ok w) i (omega arith) z
-
-    pub wires_in : ((i : ℕ) → i < n → wire_ok w i ≡ true) → wires_ok (program m) w ≡ true
-    unfolding wires_ok
-    wires_in y =
-        let P = program m in
-        and_yes _ _ (eq-eqb (length w) (65 * (P.inputs + P.outputs)) (omega arith))
-        ∙ every_yes (P.inputs + P.outputs) (wire_ok w) (λ i h. y i (omega arith))
+  pub wires_each : length w ≡ 65 * n → every n (wire_ok w) ≡ wires_ok (program m) w
+  unfolding wires_ok
+  wires_each k =
+      let P = program m in
+      (λ j. every (e j) (wire_ok w))
+      ∙ sym (and_yes _ _ (eq-eqb (length w) (65 * (P.inputs + P.outputs)) (omega arith)))
 
 -- ---- the rule order
 

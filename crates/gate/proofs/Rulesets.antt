@@ -1,21 +1,22 @@
 -- Laws of the image's counts and of its ruleset table, read from the front.
 use mathlib.Core.Path.{◌≡◌, refl, sym, ap, ◌∙◌}
-use mathlib.Core.Bool.{true, false, ◌&&◌, ◌||◌}
+use mathlib.Core.Bool.{Bool, true, false, ◌&&◌, ◌||◌}
 use mathlib.Core.List.{List}
-use Prim.Native.Nat.{ℕ, zero, suc, ◌+◌, ◌*◌, ◌≤◌, ◌<◌}
+use Prim.Native.Nat.{ℕ, ◌+◌, ◌*◌, ◌≤◌, ◌<◌}
 use native.Mathlib.Numerals.{add-one}
 use native.Mathlib.Omega.{arith}
-use borrow.Author.Count.{below_more}
-use borrow.Author.Tests.{le-leb, lt-leb, lt-ltb, le-ltb, eq-eqb, ne_eqb}
+use borrow.Author.Count.{below_none, below_more}
+use borrow.Author.Tests.{lt-ltb, le-ltb}
 use lib.Dec.{T, leb, ltb, eqb, leb→le}
 use lib.ListN.{length, get_or, set, get_or-eq_default}
 use lib.Seq.{get_or-set_same, get_or-set_other}
 use Rattle.hume.specs.Tests.{pick, every}
-use Rattle.hume.specs.Image.{Program, program, byte, half, full, version, ruleset_at, code_at, order_at}
-use Rattle.hume.specs.Refusals.{counts_ok, ruleset_ok, unless, image_refusal, length_ok, version_ok, code_ok}
-use Rattle.gate.specs.Parts.{ranges_ok, count_ok, rules_ok}
+use Rattle.hume.specs.Image.{Program, program, byte, half, full, ruleset_at, code_at, order_at}
+use Rattle.hume.specs.Refusals.{counts_ok, ruleset_ok}
+use Rattle.std.specs.Prelude.{Some, None}
+use Rattle.gate.specs.Parts.{ranges_ok, count_ok, counts_end, rules_ok}
 use Rattle.laws.proofs.Tests.{and_left, and_right, of_true, every_at}
-use Rattle.gate.proofs.Tests.{and_yes, and_no, regroup, found_place, lost_place}
+use Rattle.gate.proofs.Tests.{and_yes, and_no, regroup, every_yes, every_no, found_yes, found_no, found_place, lost_place}
 
 -- ---- past the end there are zeros
 
@@ -35,11 +36,6 @@ full_past m i h =
 
 -- ---- from a ruleset to the next
 
-pub ruleset_some : (m : List ℕ) (r : ℕ) → 0 < ruleset_at m r
-unfolding ruleset_at
-ruleset_some m zero = omega arith
-ruleset_some m (suc r) = omega arith
-
 module _ (m : List ℕ) (r at count : ℕ) (ea : at ≡ ruleset_at m r) (ec : count ≡ byte m (at + 2)) where
   pub ruleset_next : at + (3 + 2 * count) ≡ ruleset_at m (r + 1)
   unfolding ruleset_at
@@ -51,22 +47,33 @@ module _ (m : List ℕ) (r at count : ℕ) (ea : at ≡ ruleset_at m r) (ec : co
   unfolding program
   count_is = ec ∙ ap (λ (p : ℕ). byte m (p + 2)) ea
 
-  pub count_in : 1 ≤ count → count ≤ 16 → count_ok (program m) r ≡ true
-  count_in h k =
-      let e : count ≡ (program m).count r = count_is in
-      let P = program m in
-      and_yes _ _ (le-leb 1 (P.count r) (omega arith)) ∙ le-leb (P.count r) 16 (omega arith)
+  pub count_range : count_ok (program m) r ≡ (leb 1 count && leb count 16)
+  count_range = ap (λ (k : ℕ). leb 1 k && leb k 16) (sym count_is)
 
-  pub count_low : count < 1 → count_ok (program m) r ≡ false
-  count_low h =
-      let e : count ≡ (program m).count r = count_is in
-      and_no _ _ (lt-leb 1 ((program m).count r) (omega arith))
+-- ---- over the rulesets from the first on
 
-  pub count_high : 16 < count → count_ok (program m) r ≡ false
-  count_high h =
-      let e : count ≡ (program m).count r = count_is in
-      let P = program m in
-      and_yes _ _ (le-leb 1 (P.count r) (omega arith)) ∙ lt-leb (P.count r) 16 (omega arith)
+-- those below r pass the test, and the next begins at the place
+pub record Walked (m : List ℕ) (test : ℕ → Bool) (r at : ℕ) : Type 0 where
+  pub here : at ≡ ruleset_at m r
+  pub passed : (k : ℕ) → k < r → test k ≡ true
+
+module _ (m : List ℕ) (test : ℕ → Bool) where
+  pub walked_none : Walked m test 0 11
+  unfolding ruleset_at
+  walked_none = record { here = refl; passed = below_none _ }
+
+  pub walked_more : (r at count : ℕ) → Walked m test r at → count ≡ byte m (at + 2) → test r ≡ true
+      → Walked m test (r + 1) (at + (3 + 2 * count))
+  walked_more r at count w ec t =
+      record { here = ruleset_next m r at count w.here ec; passed = below_more _ _ w.passed t }
+
+  pub walked_all : (n r at : ℕ) → Walked m test r at → r ≡ n
+      → Some at ≡ pick (every n test) (Some (ruleset_at m n)) None
+  walked_all n r at w e =
+      found_yes _ _ _ (every_yes n test (λ k h. w.passed k (omega arith))) (w.here ∙ ap (ruleset_at m) e)
+
+  pub walked_out : (n r : ℕ) → r < n → test r ≡ false → None ≡ pick (every n test) (Some (ruleset_at m n)) None
+  walked_out n r h t = found_no _ _ (every_no n test r h t)
 
 pub order_next : (m : List ℕ) (r from count : ℕ) → from ≡ order_at (program m) r → count ≡ (program m).count r
     → from + count ≡ order_at (program m) (r + 1)
@@ -96,16 +103,15 @@ module _ (m : List ℕ) (i o n h s : ℕ) (ei : i ≡ byte m 5) (eo : o ≡ byte
   pub counts_out : ranges_ok i o n h s ≡ false → counts_ok m (program m) ≡ false
   counts_out e = counts_with ∙ and_no _ _ e
 
-  module _ (e : ranges_ok i o n h s ≡ true) (r : ℕ) (k : r ≡ pick (every n (count_ok (program m))) (ruleset_at m n) 0)
-    where
-      pub counts_lost : r ≡ 0 → counts_ok m (program m) ≡ false
-      counts_lost z = counts_with ∙ and_yes _ _ e ∙ and_no _ _ (lost_place _ _ r k (ruleset_some m n) z)
+  module _ (e : ranges_ok i o n h s ≡ true) where
+    pub counts_lost : None ≡ counts_end m n → counts_ok m (program m) ≡ false
+    counts_lost z = counts_with ∙ and_yes _ _ e ∙ and_no _ _ (lost_place _ _ z)
 
-      pub counts_end_lem : (r ≡ 0 → ⊥) → eqb (r + 8 * s) (length m) ≡ counts_ok m (program m)
-      counts_end_lem z =
-          let f = found_place _ _ r k z in
-          ap (λ (p : ℕ). eqb (p + 8 * s) (length m)) f.is
-          ∙ sym (counts_with ∙ and_yes _ _ e ∙ and_yes _ _ f.passes)
+    pub counts_end_lem : (r : ℕ) → Some r ≡ counts_end m n → eqb (r + 8 * s) (length m) ≡ counts_ok m (program m)
+    counts_end_lem r k =
+        let f = found_place _ _ r k in
+        ap (λ (p : ℕ). eqb (p + 8 * s) (length m)) f.is
+        ∙ sym (counts_with ∙ and_yes _ _ e ∙ and_yes _ _ f.passes)
 
 -- what the ranges say of the number of rulesets
 pub ranges_rulesets : (i o n h s : ℕ) → ranges_ok i o n h s ≡ true → n ≤ 32
@@ -168,31 +174,3 @@ entry_more l k v f h old e =
     below_more (λ (j : ℕ). get_or (set l (k + 1) v) j 0 ≡ f j) (k + 1)
     (λ j b. get_or-set_other l (k + 1) j v 0 (λ q. omega arith) ∙ old j b)
     (get_or-set_same l (k + 1) v 0 h ∙ e)
-
--- ---- the first number that applies
-
-module _ (m : List ℕ) where
-  pub version_out : (x : ℕ) → x ≡ byte m 4 → (x ≡ 1 → ⊥) → version_ok m ≡ false
-  unfolding version_ok version
-  version_out x e n = ne_eqb (byte m 4) 1 (λ q. n (e ∙ q))
-
-  pub version_in : (x : ℕ) → x ≡ byte m 4 → x ≡ 1 → version_ok m ≡ true
-  unfolding version_ok version
-  version_in x e q = eq-eqb (byte m 4) 1 (sym e ∙ q)
-
-  pub refused_length : length_ok m ≡ false → 1 ≡ image_refusal m
-  unfolding image_refusal unless
-  refused_length e = rw e refl
-
-  pub refused_version : length_ok m ≡ true → version_ok m ≡ false → 2 ≡ image_refusal m
-  unfolding image_refusal unless
-  refused_version e v = rw (e, v) refl
-
-  pub refused_counts : length_ok m ≡ true → version_ok m ≡ true → counts_ok m (program m) ≡ false → 3 ≡ image_refusal m
-  unfolding image_refusal unless
-  refused_counts e v k = rw (e, v, k) refl
-
-  pub refused_code : length_ok m ≡ true → version_ok m ≡ true → counts_ok m (program m) ≡ true
-      → unless (code_ok (program m)) 4 0 ≡ image_refusal m
-  unfolding image_refusal unless
-  refused_code e v k = rw (e, v, k) refl

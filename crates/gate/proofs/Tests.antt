@@ -1,14 +1,16 @@
 -- Laws of tests: what a loop or a chain of tests has found, as an equation of the test.
 use mathlib.Core.Path.{◌≡◌, refl, sym, ap, ◌∙◌, subst}
-use mathlib.Core.Bool.{Bool, true, false, ◌&&◌, ◌||◌}
-use mathlib.Core.List.{List}
-use Prim.Native.Nat.{ℕ, ◌<◌}
 use native.Mathlib.Omega.{arith}
+use mathlib.Core.Bool.{Bool, true, false, ◌&&◌, ◌||◌}
+use mathlib.Core.List.{List, [], ◌∷◌}
+use Rattle.std.specs.Prelude.{Some, None}
+use Rattle.std.specs.List.{list_all, range_with_len}
+use Rattle.std.proofs.lemmas.List.FromFn.{length-range_with_len, get_or-range_with_len}
+use Rattle.std.proofs.Common.{zero-add}
+use Prim.Native.Nat.{ℕ, ◌<◌}
 use lib.Dec.{T}
 use lib.ListN.{length, get_or}
 use Rattle.hume.specs.Tests.{pick, every, all}
-use Rattle.hume.specs.Refusals.{unless}
-use Rattle.gate.specs.Parts.{Read}
 use Rattle.laws.proofs.Tests.{to_true, of_true, to_false, every_at, every_of, all_at, all_of}
 
 pub both_ways : (a b : Bool) → (T a → T b) → (T b → T a) → a ≡ b
@@ -53,39 +55,53 @@ regroup a b c d e f g z =
     (push b (c && (d && (e && (f && g)))) z
     (push c (d && (e && (f && g))) z (push d (e && (f && g)) z (push e (f && g) z (push f g z refl)))))
 
--- ---- a place, or 0 where a test fails
+-- ---- what is found, unless a test fails
 
-pub place_found : (b : Bool) (x bound r : ℕ) → b ≡ true → r ≡ x → r < bound → Read (pick b x 0) bound r
+pub found_yes : (b : Bool) (x r : ℕ) → b ≡ true → r ≡ x → Some r ≡ pick b (Some x) None
 unfolding pick
-place_found b x bound r e f h = record { is = f ∙ ap (λ (t : Bool). pick t x 0) (sym e); small = h }
+found_yes b x r e f = rw (e, f) refl
 
-pub place_lost : (b : Bool) (x bound : ℕ) → b ≡ false → 0 < bound → Read (pick b x 0) bound 0
+pub found_no : (b : Bool) (x : ℕ) → b ≡ false → None ≡ pick b (Some x) None
 unfolding pick
-place_lost b x bound e h = record { is = ap (λ (t : Bool). pick t x 0) (sym e); small = h }
+found_no b x e = rw e refl
 
 pub record Found (b : Bool) (x r : ℕ) : Type 0 where
   pub passes : b ≡ true
   pub is : r ≡ x
 
-pub found_place : (b : Bool) (x r : ℕ) → r ≡ pick b x 0 → (r ≡ 0 → ⊥) → Found b x r
+pub found_place : (b : Bool) (x r : ℕ) → Some r ≡ pick b (Some x) None → Found b x r
 unfolding pick
-found_place true x r e k = record { passes = refl; is = e }
-found_place false x r e k = absurd (k e)
+found_place true x r e = record { passes = refl; is = cc }
+found_place false x r e = absurd (cc)
 
-pub lost_place : (b : Bool) (x r : ℕ) → r ≡ pick b x 0 → 0 < x → r ≡ 0 → b ≡ false
+pub lost_place : (b : Bool) (x : ℕ) → None ≡ pick b (Some x) None → b ≡ false
 unfolding pick
-lost_place true x r e k z = absurd (omega arith)
-lost_place false x r e k z = refl
+lost_place true x e = absurd (cc)
+lost_place false x e = refl
 
--- ---- the first number that applies
+-- std's test of each thing of a list is hume's
+pub all_is : (f : ℕ → Bool) (xs : List ℕ) → list_all f xs ≡ all f xs
+unfolding all
+all_is f [] = refl
+all_is f (x ∷ xs) = ap (λ (t : Bool). f x && t) (all_is f xs)
 
-pub unless_yes : (b : Bool) (x y : ℕ) → b ≡ true → y ≡ unless b x y
-unfolding unless
-unless_yes b x y e = ap (λ (t : Bool). unless t x y) (sym e)
+-- and over the numbers below n
+pub every_is : (n : ℕ) (f : ℕ → Bool) → list_all f (range_with_len 0 n) ≡ every n f
+every_is n f = all_is f (range_with_len 0 n) ∙ both_ways _ _ to from
+  where
+    at : (i : ℕ) → i < n → get_or (range_with_len 0 n) i 0 ≡ i
+    at i h = get_or-range_with_len 0 n i 0 h ∙ zero-add i
 
-pub unless_no : (b : Bool) (x y : ℕ) → b ≡ false → x ≡ unless b x y
-unfolding unless
-unless_no b x y e = ap (λ (t : Bool). unless t x y) (sym e)
+    long : length (range_with_len 0 n) ≡ n
+    long = length-range_with_len 0 n
 
-pub unless_both : (n : ℕ) {b c : Bool} {x y : ℕ} → b ≡ c → x ≡ y → unless b n x ≡ unless c n y
-unless_both n e f = λ j. unless (e j) n (f j)
+    to : T (all f (range_with_len 0 n)) → T (every n f)
+    to t =
+        every_of n f
+        (λ i h. subst (λ (k : ℕ). T (f k)) (at i h) (all_at f (range_with_len 0 n) 0 t i (omega (arith, long))))
+
+    from : T (every n f) → T (all f (range_with_len 0 n))
+    from t =
+        all_of f (range_with_len 0 n) 0 (λ i h.
+        let b : i < n = omega (arith, long) in
+        subst (λ (k : ℕ). T (f k)) (sym (at i b)) (every_at n f t i b))

@@ -1,5 +1,5 @@
 -- Where values end: what the checkers of a wire's words answer.
-use Rattle.std.specs.Prelude.{◌≡◌, List, ◌++◌, ℕ, ◌+◌, ◌≤◌, T, length, drop}
+use Rattle.std.specs.Prelude.{◌≡◌, Option, Some, List, ◌++◌, ℕ, ◌+◌, ◌≤◌, T, length, drop}
 use Rattle.hume.specs.Values.{Value, Values, count, good, goods, prefix, prefixes}
 
 -- the words from i to e are the prefix form of a good value
@@ -19,13 +19,13 @@ pub record Fields (s : List ℕ) (i n e : ℕ) : Type 0 where
   pub within : e ≤ length s
   pub here : drop i s ≡ prefixes values ++ drop e s
 
--- e is where the value at i ends, or 0 where no good value begins there
-pub record CellEnds (s : List ℕ) (i e : ℕ) : Type 0 where
-  pub sound : (e ≡ 0 → ⊥) → Cell s i e
-  pub complete : (v : Value) (ws : List ℕ) → T (good v) → drop i s ≡ prefix v ++ ws → e ≡ i + length (prefix v)
+-- e is where the value at i ends, if a good value begins there
+pub record CellEnds (s : List ℕ) (i : ℕ) (e : Option ℕ) : Type 0 where
+  pub sound : (n : ℕ) → e ≡ Some n → Cell s i n
+  pub complete : (v : Value) (ws : List ℕ) → T (good v) → drop i s ≡ prefix v ++ ws → e ≡ Some (i + length (prefix v))
 
 -- and so of n values
-pub record FieldsEnd (s : List ℕ) (i n e : ℕ) : Type 0 where
-  pub sound : (e ≡ 0 → ⊥) → Fields s i n e
+pub record FieldsEnd (s : List ℕ) (i n : ℕ) (e : Option ℕ) : Type 0 where
+  pub sound : (k : ℕ) → e ≡ Some k → Fields s i n k
   pub complete : (vs : Values) (ws : List ℕ) → T (goods vs) → n ≡ count vs → drop i s ≡ prefixes vs ++ ws
-      → e ≡ i + length (prefixes vs)
+      → e ≡ Some (i + length (prefixes vs))

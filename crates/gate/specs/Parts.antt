@@ -1,5 +1,9 @@
 -- Parts of the image's tests, as the checks take them one after the other.
-use Rattle.std.specs.Prelude.{◌≡◌, Bool, ◌&&◌, ◌||◌, List, ℕ, zero, suc, ◌+◌, ◌*◌, ◌/◌, ◌%◌, ◌<◌, leb, ltb, eqb, length, get_or}
+use Rattle.std.specs.Prelude.{◌≡◌, Bool, ◌&&◌, Option, Some, None, ◌||◌, List, ℕ, ◌+◌, ◌*◌, ◌<◌, leb, ltb, eqb, length, get_or}
+use Rattle.gate.specs.declared.code.Kind.{Kind}
+use Rattle.gate.specs.declared.code.Kind.TheVariants.{Unused, Anything, Truth, Address, Input, Output, Ruleset, Primitive1, Primitive2}
+use Rattle.gate.specs.declared.code.Format.{Format}
+use Rattle.gate.specs.declared.code.Sizes.{Sizes}
 use Rattle.hume.specs.Tests.{pick, every}
 use Rattle.hume.specs.Image.{Program, program, byte, half, ruleset_at, order_at}
 use Rattle.hume.specs.Refusals.{Field, Fields, fields, unused, anything, truth, address, input, output, callee, primitive1, primitive2, field_ok, format_of, opcode_ok, ruleset_ok}
@@ -20,43 +24,43 @@ ranges_ok inputs outputs rulesets handler size =
 abbrev pub count_ok : Program → ℕ → Bool
 count_ok P r = leb 1 (P.count r) && leb (P.count r) 16
 
--- where the first n rulesets end, or 0 where one has a rule count outside its range
-abbrev pub counts_end : List ℕ → ℕ → ℕ
-counts_end m n = pick (every n (count_ok (program m))) (ruleset_at m n) 0
+-- where the first n rulesets end, unless one has a rule count outside its range
+abbrev pub counts_end : List ℕ → ℕ → Option ℕ
+counts_end m n = pick (every n (count_ok (program m))) (Some (ruleset_at m n)) None
 
--- where the rulesets end, or 0 where one has an address that is no instruction's
-abbrev pub addresses_end : List ℕ → ℕ
-addresses_end m = pick (every (program m).rulesets (ruleset_ok (program m))) (ruleset_at m (byte m 7)) 0
+-- where the rulesets end, unless one has an address that is no instruction's
+abbrev pub addresses_end : List ℕ → Option ℕ
+addresses_end m = pick (every (program m).rulesets (ruleset_ok (program m))) (Some (ruleset_at m (byte m 7))) None
 
 -- n addresses from the place p on
 unfoldable pub rules_ok : List ℕ → ℕ → ℕ → ℕ → Bool
 rules_ok m p n size = every n (λ k. ltb (half m (p + 2 * k)) size)
 
--- the kinds of field by their numbers in the tables
-unfoldable pub kind_of : ℕ → Field
-kind_of zero = unused
-kind_of (suc zero) = anything
-kind_of (suc (suc zero)) = truth
-kind_of (suc (suc (suc zero))) = address
-kind_of (suc (suc (suc (suc zero)))) = input
-kind_of (suc (suc (suc (suc (suc zero))))) = output
-kind_of (suc (suc (suc (suc (suc (suc zero)))))) = callee
-kind_of (suc (suc (suc (suc (suc (suc (suc zero))))))) = primitive1
-kind_of (suc (suc (suc (suc (suc (suc (suc (suc n)))))))) = primitive2
+-- the code's kinds of field
+abbrev pub kind_of : Kind → Field
+kind_of Unused = unused
+kind_of Anything = anything
+kind_of Truth = truth
+kind_of Address = address
+kind_of Input = input
+kind_of Output = output
+kind_of Ruleset = callee
+kind_of Primitive1 = primitive1
+kind_of Primitive2 = primitive2
 
--- the kinds of an instruction's three fields, as the digits of a number
-abbrev pub digits : ℕ → Fields
-digits x = fields (kind_of (x / 100)) (kind_of (x / 10 % 10)) (kind_of (x % 10))
+-- the kinds of an instruction's three fields
+abbrev pub kinds : Format → Fields
+kinds f = fields (kind_of f.a) (kind_of f.b) (kind_of f.c)
 
 -- a program of which only the sizes are given
-abbrev pub sized : ℕ → ℕ → ℕ → ℕ → Program
-sized inputs outputs rulesets size =
+abbrev pub sized : Sizes → Program
+sized s =
     record {
-      inputs = inputs;
-      outputs = outputs;
-      rulesets = rulesets;
+      inputs = s.inputs;
+      outputs = s.outputs;
+      rulesets = s.rulesets;
       handler = 0;
-      size = size;
+      size = s.size;
       entry = λ r. 0;
       count = λ r. 0;
       rule = λ r k. 0;
@@ -65,6 +69,11 @@ sized inputs outputs rulesets size =
       arg_b = λ k. 0;
       arg_c = λ k. 0;
     }
+
+-- the sizes that stand in the image's first bytes
+abbrev pub SizesOf : List ℕ → Sizes → Type 0
+SizesOf m s =
+    s ≡ record { inputs = byte m 5; outputs = byte m 6; rulesets = byte m 7; size = half m 9 }
 
 -- the test of an instruction, by its four numbers
 unfoldable pub fields_ok : Program → ℕ → ℕ → ℕ → ℕ → Bool

@@ -1,22 +1,8 @@
 // Document 01, "The image": its bytes, its counts and where its parts begin.
-ghost use Rattle.std.specs.Prelude.{◌≡◌, ◌||◌, ltb, eqb, ◌≤◌, ◌^◌};
+ghost use Rattle.std.specs.Prelude.{◌≡◌, ◌≤◌, ◌<◌, ◌^◌, IfSome};
 ghost use Rattle.hume.specs.Image.{program, byte, half, full};
 ghost use Rattle.hume.specs.Refusals.{length_ok, counts_ok};
 ghost use Rattle.gate.specs.Parts.{Read, ranges_ok, counts_end};
-
-// The refusals by their numbers, from 0.
-#[derive(Clone, Copy)]
-pub enum Verdict {
-    Accepted,
-    Length,
-    Version,
-    Counts,
-    Code,
-    Card,
-    Limits,
-    Wires,
-    Order,
-}
 
 // Where ruleset k begins in the image, and its part in the rule order, to one past the 32nd.
 #[derive(Drop)]
@@ -26,13 +12,15 @@ pub struct Layout {
 }
 
 // A byte; past the end, 0.
+#[tactic(auto, unfolding(hume::specs::Image::byte))]
 pub fn byte_at(m: &[u8], i: usize) -> usize
     ensures { Read (byte m.now i) 256 result }
 {
-    if i < m.len() { m[i] as usize } else { 0 }
+    m.get(i).map_or(0, |&b| usize::from(b))
 }
 
 // "Big-endian."
+#[tactic(auto, using(crate::proofs::Rulesets::half_past), unfolding(hume::specs::Image::half))]
 pub(crate) fn half_at(m: &[u8], i: usize) -> usize
     ensures { Read (half m.now i) 65536 result }
 {
@@ -42,6 +30,7 @@ pub(crate) fn half_at(m: &[u8], i: usize) -> usize
     byte_at(m, i) * 256 + byte_at(m, i + 1)
 }
 
+#[tactic(auto, using(crate::proofs::Rulesets::full_past), unfolding(hume::specs::Image::full))]
 pub fn full_at(m: &[u8], i: usize) -> usize
     ensures { Read (full m.now i) (2 ^ 32) result }
 {
@@ -52,49 +41,41 @@ pub fn full_at(m: &[u8], i: usize) -> usize
 }
 
 // "fewer than 11 bytes, or the length isn't the slice's"
+#[tactic(auto, unfolding(hume::specs::Refusals::length_ok, hume::specs::Image::total_length))]
 pub(crate) fn length_ok(image: &[u8]) -> bool
     ensures { result ≡ length_ok image.now }
 {
     11 <= image.len() && full_at(image, 0) == image.len()
 }
 
-// "handler ruleset (below R, or 255 for none)"
-fn handler_ok(handler: usize, rulesets: usize) -> bool
-    ensures { result ≡ (ltb handler rulesets || eqb handler 255) }
-{
-    handler < rulesets || handler == 255
-}
-
-// "inputs (0..8), outputs (0..8), rulesets R (1..32)", "instruction count N (1..4096)"
+// "inputs (0..8), outputs (0..8), rulesets R (1..32)", "handler ruleset (below R, or 255 for none)", "instruction count N
+// (1..4096)"
+#[tactic(auto, unfolding(crate::specs::Parts::ranges_ok))]
 fn ranges_ok(inputs: usize, outputs: usize, rulesets: usize, handler: usize, size: usize) -> bool
     ensures { result ≡ ranges_ok inputs outputs rulesets handler size }
 {
     inputs <= 8
-        && (outputs <= 8
-            && (1 <= rulesets
-                && (rulesets <= 32
-                    && (handler_ok(handler, rulesets) && (1 <= size && size <= 4096)))))
+        && outputs <= 8
+        && (1..=32).contains(&rulesets)
+        && (handler < rulesets || handler == 255)
+        && (1..=4096).contains(&size)
 }
 
-// Where the first n rulesets end, or 0 where one has a rule count outside 1..16.
-fn rulesets_end(image: &[u8], n: usize) -> usize
+// Where the first n rulesets end, if each has a rule count of 1..16.
+fn rulesets_end(image: &[u8], n: usize) -> Option<usize>
     requires { n ≤ 32 }
-    ensures { Read (counts_end image.now n) 20000 result }
+    ensures is { result ≡ counts_end image.now n }
+    ensures small { IfSome result (λ end. end < 20000) }
 {
     let mut at = 11;
-    let mut r = 0;
-    while r < n {
+    for r in 0..n {
         let count = byte_at(image, at + 2);
-        if count < 1 {
-            return 0;
-        }
-        if 16 < count {
-            return 0;
+        if !(1..=16).contains(&count) {
+            return None;
         }
         at += 3 + 2 * count;
-        r += 1;
     }
-    at
+    Some(at)
 }
 
 // "a count or handler outside its range, or the total length doesn't fit the counts"
@@ -112,9 +93,8 @@ pub(crate) fn counts_ok(image: &[u8]) -> bool
     ) {
         return false;
     }
-    let end = rulesets_end(image, rulesets);
-    if end == 0 {
+    let Some(end) = rulesets_end(image, rulesets) else {
         return false;
-    }
+    };
     end + 8 * size == image.len()
 }

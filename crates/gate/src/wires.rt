@@ -8,99 +8,101 @@ ghost use Rattle.gate.specs.Cells.{CellEnds, FieldsEnd};
 
 use crate::image::byte_at;
 
+// Headers: "The header is kind × 65536 + tag"; "Only Constr and Exn have a tag."
+const BOOL: u32 = 1 << 16;
+
+const INT: u32 = 2 << 16;
+
+const FLOAT: u32 = 3 << 16;
+
+const TUPLE: u32 = 4 << 16;
+
+const NONE: u32 = 7 << 16;
+
+// The kinds of the two headers that have a tag.
+const CONSTR: u32 = 5;
+
+const EXN: u32 = 6;
+
+// The bits of a Float: all but the sign, those of an infinity, the one NaN.
+const MAGNITUDE: u32 = 0x7FFF_FFFF;
+
+const INFINITY: u32 = 0x7F80_0000;
+
+const NAN: u32 = 0x7FC0_0000;
+
 // "1 Bool (0 or 1), 2 Int, 3 Float"; "A Float that is a NaN is 7FC00000."
+#[tactic(auto, unfolding(hume::specs::Values::atom_ok))]
 fn atom_ok(h: u32, x: u32) -> bool
     ensures { result ≡ atom_ok h x }
 {
-    if h == 65536 {
-        return x < 2;
+    match h {
+        BOOL => x < 2,
+        INT => true,
+        FLOAT => x & MAGNITUDE <= INFINITY || x == NAN,
+        _ => false,
     }
-    if h == 131072 {
-        return true;
-    }
-    h == 196608 && (x % 2147483648 <= 2139095040 || x == 2143289344)
 }
 
-// "4 Tuple, 5 Constr, 6 Exn (size 1)"; "Sizes 0..255. Only Constr and Exn have a tag."
+// "4 Tuple, 5 Constr, 6 Exn (size 1)"; "Sizes 0..255."
+#[tactic(auto, unfolding(hume::specs::Values::block_ok))]
 fn block_ok(h: u32, n: u32) -> bool
     ensures { result ≡ block_ok h n }
 {
-    if h == 262144 {
+    if h == TUPLE {
         return n <= 255;
     }
-    if h / 65536 == 5 {
-        return n <= 255;
+    match h >> 16 {
+        CONSTR => n <= 255,
+        EXN => n == 1,
+        _ => false,
     }
-    h / 65536 == 6 && n == 1
 }
 
-// Where the cell that begins at i ends, or 0 where none begins there.
+// Where the cell that begins at i ends, if one does.
 #[cycle(cell_end_fields_end)]
-fn cell_end(s: &[u32], i: usize) -> usize
+fn cell_end(s: &[u32], i: usize) -> Option<usize>
     ensures { CellEnds s.now i result }
 {
-    if s.len() <= i {
-        return 0;
+    let h = *s.get(i)?;
+    if h == NONE {
+        return Some(i + 1);
     }
-    let h = s[i];
-    if h == 458752 {
-        return i + 1;
-    }
-    let j = i + 1;
-    if s.len() <= j {
-        return 0;
-    }
-    let x = s[j];
+    let x = *s.get(i + 1)?;
     if atom_ok(h, x) {
-        return i + 2;
+        return Some(i + 2);
     }
     if block_ok(h, x) {
         return fields_end(s, i + 2, x);
     }
-    0
+    None
 }
 
-// Where the n cells from i on end, or 0 where there are not so many: "a field is again a cell". Each cell that is found
-// leaves fewer words, so no size makes this run longer than the wire.
+// Where the n cells from i on end, if there are so many: "a field is again a cell". Each cell that is found leaves fewer
+// words, so no size makes this run longer than the wire.
 #[cycle(cell_end_fields_end)]
-fn fields_end(s: &[u32], i: usize, n: u32) -> usize
+fn fields_end(s: &[u32], i: usize, n: u32) -> Option<usize>
     requires { (0 < i) × (i ≤ length s.now) }
     ensures { FieldsEnd s.now i n result }
 {
-    if n == 0 {
-        return i;
+    let mut end = i;
+    for k in 0..n {
+        end = cell_end(s, end)?;
     }
-    let next = cell_end(s, i);
-    if next == 0 {
-        return 0;
-    }
-    fields_end(s, next, n - 1)
+    Some(end)
 }
 
 // "Otherwise the k words are exactly one value"; "None (header only, never a whole wire value)"
 fn one_value(s: &[u32]) -> bool
     ensures { result ≡ one_value s.now }
 {
-    if s.len() == 0 {
-        return false;
-    }
-    if s[0] == 458752 {
-        return false;
-    }
-    cell_end(s, 0) == s.len()
+    s.first() != Some(&NONE) && cell_end(s, 0) == Some(s.len())
 }
 
 fn zeros(s: &[u32]) -> bool
     ensures { result ≡ all (λ x. eqb x 0) s.now }
 {
-    let mut i = 0;
-    while i < s.len() {
-        if s[i] != 0 {
-            return false;
-        }
-        i += 1;
-    }
-    true
+    s.iter().all(|x| *x == 0)
 }
 
 // "A wire is a count k (0..64), k words, then zeros. k = 0 means empty."
@@ -117,13 +119,7 @@ fn wire_ok(wires: &[u32], i: usize) -> bool
     let first = start + 1;
     let end = first + k as usize;
     let past = start + 65;
-    if !zeros(&wires[end..past]) {
-        return false;
-    }
-    if k == 0 {
-        return true;
-    }
-    one_value(&wires[first..end])
+    zeros(&wires[end..past]) && (k == 0 || one_value(&wires[first..end]))
 }
 
 // "Wires: 65 words each, inputs first."
@@ -131,15 +127,5 @@ pub(crate) fn wires_ok(image: &[u8], wires: &[u32]) -> bool
     ensures { result ≡ wires_ok (program image.now) wires.now }
 {
     let n = byte_at(image, 5) + byte_at(image, 6);
-    if wires.len() != 65 * n {
-        return false;
-    }
-    let mut i = 0;
-    while i < n {
-        if !wire_ok(wires, i) {
-            return false;
-        }
-        i += 1;
-    }
-    true
+    wires.len() == 65 * n && (0..n).all(|i| wire_ok(wires, i))
 }

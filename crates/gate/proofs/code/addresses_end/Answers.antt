@@ -1,75 +1,36 @@
-use mathlib.Core.Path.{◌≡◌, refl, sym, ap, ◌∙◌}
-use Prim.Native.Nat.{◌<◌}
-use native.Mathlib.Omega.{arith}
-use borrow.Author.Count.{below_none, below_more}
-use borrow.Author.Tests.{not-true, not-false}
-use Rattle.hume.specs.Image.{program, ruleset_at}
-use Rattle.gate.proofs.Tests.{every_yes, every_no, place_found, place_lost}
-use Rattle.gate.proofs.Rulesets.{ruleset_next, entry_out, rules_are}
+use Rattle.std.proofs.Common.{◌<◌, sym, ◌∙◌, arith}
+use Rattle.hume.specs.Image.{program}
+use Rattle.gate.proofs.Rulesets.{walked_none, walked_more, walked_all, walked_out, entry_out, rules_are}
 use Rattle.gate.proofs.code.addresses_end.Goals as goal
+use Rattle.gate.proofs.code.addresses_end.Goals.{then-size-half_at-via-then-size-half_at, then-size-half_at-via-else-size-half_at+then-not-rules_ok}
 
 pub loop-r-init : goal.loop-r-init
-unfolding ruleset_at
-loop-r-init c = (omega arith, refl, omega arith, below_none _)
+loop-r-init c = record { walked = walked_none _ _; low = omega arith }
 
-pub returns-then-size-half_at : goal.returns-then-size-half_at
+pub returns-then-size-half_at-clause-is : goal.returns-then-size-half_at-clause-is
 unfolding program
-returns-then-size-half_at c =
-    let h : c.loop-r.r < (program c.args.image.now).rulesets =
+returns-then-size-half_at-clause-is c =
+    let at = c.loop-r.invariant.walked.here in
+    let low : c.loop-r.r < (program c.args.image.now).rulesets =
     omega (arith, c.byte_at-rulesets.ensures.is, c.loop-r-test.true) in
-    place_lost _ _ _
-    (every_no _ _ c.loop-r.r h
-    (entry_out _ _ _ _ c.loop-r.invariant.1 c.half_at-size.ensures.is _ c.half_at.ensures.is c.if-size-half_at.true)) (omega arith)
-
-pub overflow_add-at : goal.overflow_add-at
-overflow_add-at c = omega arith
-
-pub overflow_add-at-in-loop-r : goal.overflow_add-at-in-loop-r
-overflow_add-at-in-loop-r c = omega arith
-
-pub rules_ok-requires : goal.rules_ok-requires
-rules_ok-requires c = (omega arith, c.byte_at-count.ensures.small)
-
-pub returns-then-not-rules_ok : goal.returns-then-not-rules_ok
-unfolding program
-returns-then-not-rules_ok c =
-    let h : c.loop-r.r < (program c.args.image.now).rulesets =
-    omega (arith, c.byte_at-rulesets.ensures.is, c.loop-r-test.true) in
-    place_lost _ _ _
-    (every_no _ _ c.loop-r.r h
-    (rules_are _ _ _ _ c.loop-r.invariant.1 c.half_at-size.ensures.is _ _ c.half_at.ensures.is c.if-size-half_at.false
-    c.byte_at-count.ensures.is ∙ sym c.rules_ok.ensures ∙ not-true _ c.if-not-rules_ok.true-raw)) (omega arith)
-
-pub overflow_mul-at : goal.overflow_mul-at
-overflow_mul-at c = omega arith
-
-pub overflow_add-at-in-loop-r-2 : goal.overflow_add-at-in-loop-r-2
-overflow_add-at-in-loop-r-2 c = omega arith
-
-pub overflow_add-at-in-loop-r-3 : goal.overflow_add-at-in-loop-r-3
-overflow_add-at-in-loop-r-3 c = omega arith
-
-pub overflow_add-r : goal.overflow_add-r
-overflow_add-r c = omega arith
-
-pub loop-r-smaller : goal.loop-r-smaller
-loop-r-smaller c = omega arith
+    walked_out _ _ _ _ low (elim c.then-size-half_at.branch [
+      | then-size-half_at-via-then-size-half_at w ↦
+          entry_out _ _ _ _ at c.half_at-size.ensures.is _ c.half_at.ensures.is w.if-size-half_at.true
+      | then-size-half_at-via-else-size-half_at+then-not-rules_ok w ↦
+          rules_are _ _ _ _ at c.half_at-size.ensures.is _ _ c.half_at.ensures.is w.if-size-half_at.false
+          c.byte_at-count.ensures.is ∙ sym w.rules_ok.ensures ∙ w.if-not-rules_ok.true
+    ])
 
 pub loop-r-preserved : goal.loop-r-preserved
-loop-r-preserved c = (
-  omega arith,
-  ruleset_next _ _ _ _ c.loop-r.invariant.1 c.byte_at-count.ensures.is,
-  omega arith,
-  below_more _ _
-      c.loop-r.invariant.3
-      (rules_are _ _ _ _ c.loop-r.invariant.1 c.half_at-size.ensures.is _ _ c.half_at.ensures.is c.if-size-half_at.false
-      c.byte_at-count.ensures.is ∙ sym c.rules_ok.ensures ∙ not-false _ c.if-not-rules_ok.false-raw),
-)
+loop-r-preserved c =
+    let at = c.loop-r.invariant.walked.here in
+    record {
+      walked = walked_more _ _ _ _ _ c.loop-r.invariant.walked c.byte_at-count.ensures.is
+          (rules_are _ _ _ _ at c.half_at-size.ensures.is _ _ c.half_at.ensures.is c.if-size-half_at.false
+          c.byte_at-count.ensures.is ∙ sym c.rules_ok.ensures ∙ c.if-not-rules_ok.false);
+      low = omega arith;
+    }
 
-pub returns : goal.returns
+pub returns-clause-is : goal.returns-clause-is
 unfolding program
-returns c =
-    let e : c.loop-r.r ≡ (program c.args.image.now).rulesets =
-    omega (arith, c.loop-r.invariant.0, c.loop-r-test.false, c.byte_at-rulesets.ensures.is) in
-    place_found _ _ _ _ (every_yes _ _ (λ k h. c.loop-r.invariant.3 k (omega arith)))
-    (c.loop-r.invariant.1 ∙ ap (ruleset_at c.args.image.now) e) (omega (arith, c.loop-r.invariant, c.byte_at-rulesets.ensures.small))
+returns-clause-is c = walked_all _ _ _ _ _ c.loop-r.invariant.walked (omega (arith, c.byte_at-rulesets.ensures.is))

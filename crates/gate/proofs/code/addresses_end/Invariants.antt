@@ -1,13 +1,9 @@
-use mathlib.Core.Path.{◌≡◌}
-use mathlib.Core.Bool.{true}
-use Prim.Native.Nat.{ℕ, ◌+◌, ◌-◌, ◌*◌, ◌≤◌, ◌<◌}
-use Rattle.hume.specs.Image.{program, ruleset_at}
+use Rattle.std.proofs.Common.{◌+◌, ◌*◌, ◌≤◌}
+use Rattle.hume.specs.Image.{program}
 use Rattle.hume.specs.Refusals.{ruleset_ok}
+use Rattle.gate.proofs.Rulesets.{Walked}
 use Rattle.gate.proofs.code.addresses_end.Given as goal
 
 abbrev pub invariant-loop-r : goal.invariant-loop-r
-invariant-loop-r l = (l.r ≤ l.rulesets) × (l.at ≡ ruleset_at l.image l.r) × (l.at ≤ 11 + 513 * l.r)
-    × ((k : ℕ) → k < l.r → ruleset_ok (program l.image) k ≡ true)
-
-abbrev pub decreases-loop-r : goal.decreases-loop-r
-decreases-loop-r l = l.rulesets - l.r
+invariant-loop-r l =
+    record { walked : Walked l.image (ruleset_ok (program l.image)) l.r l.at; low : l.at ≤ 11 + 513 * l.r }

@@ -1,5 +1,6 @@
-use Rattle.gate.proofs.Instructions.{formats}
+use Rattle.std.proofs.Common.{arith}
+use Rattle.gate.proofs.Instructions.{format_is}
 use Rattle.gate.proofs.code.format_at.Goals as goal
 
 pub returns : goal.returns
-returns c = formats c.args.op c.requires.0 c.requires.1
+returns c = format_is c.args.op _ (omega arith)

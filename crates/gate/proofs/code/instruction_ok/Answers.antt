@@ -1,30 +1,40 @@
-use mathlib.Core.Path.{refl, sym, ◌∙◌}
-use native.Mathlib.Omega.{arith}
-use borrow.Author.Tests.{not-true, not-false}
-use Rattle.gate.proofs.Instructions.{fields_read, opcode_low, opcode_high, first_out, second_out, third_is}
+use Rattle.std.proofs.Common.{◌≡◌, true, false, ◌&&◌, leb, refl, sym, ◌∙◌, rules, tests}
+use Rattle.gate.proofs.Tests.{and_yes, and_no}
+use Rattle.gate.proofs.Instructions.{fields_read, opcode_out, fields_are}
 use Rattle.gate.proofs.code.instruction_ok.Goals as goal
+use Rattle.gate.proofs.code.instruction_ok.Goals.{then-allow, else-allow}
 
-pub returns-then-op-lt1 : goal.returns-then-op-lt1
-returns-then-op-lt1 c = sym (opcode_low _ _ _ _ _ (omega (arith, c.byte_at-op.ensures.is, c.if-op-lt1.true)))
+pub returns-then-not-contains : goal.returns-then-not-contains
+returns-then-not-contains c =
+    let out : (leb 1 c.byte_at-op.result && leb c.byte_at-op.result 40) ≡ false = search (rules, tests) in
+    sym (fields_read _ c.byte_at-op.ensures.is refl refl refl ∙ opcode_out _ _ _ _ _ out)
 
-pub returns-then-op-gt40 : goal.returns-then-op-gt40
-returns-then-op-gt40 c = sym (opcode_high _ _ _ _ _ (omega (arith, c.byte_at-op.ensures.is, c.if-op-gt40.true)))
+pub returns-then-allow-2 : goal.returns-then-allow-2
+returns-then-allow-2 c =
+    let within : (leb 1 c.byte_at-op.result && leb c.byte_at-op.result 40) ≡ true = search (rules, tests) in
+    elim c.if-allow.branch [
+      | then-allow w ↦
+          c.allow-then-allow-2.ensures
+          ∙ sym (fields_read _ c.byte_at-op.ensures.is c.byte_at.ensures.is w.half_at.ensures.is c.full_at.ensures.is
+          ∙ fields_are _ _ _ _ _ within _ c.format_at-kinds.ensures
+          ∙ and_yes _ _ (sym c.allow.ensures ∙ w.if-allow.true)
+          ∙ and_yes _ _ (sym w.allow-then-allow.ensures ∙ sym w.value-is ∙ c.if-allow-2.true))
+      | else-allow w ↦ absurd (let e : true ≡ false = sym c.if-allow-2.true ∙ w.value-is ∙ w.if-allow.false in cc)
+    ]
 
-pub returns-then-not-field_ok : goal.returns-then-not-field_ok
-returns-then-not-field_ok c =
-    sym (fields_read _ c.byte_at-op.ensures.is c.byte_at.ensures.is refl refl
-    ∙ first_out _ _ _ _ _ c.if-op-lt1.false c.if-op-gt40.false _ c.format_at-kinds.ensures
-    (sym c.field_ok.ensures ∙ not-true _ c.if-not-field_ok.true-raw))
-
-pub returns-then-not-field_ok-2 : goal.returns-then-not-field_ok-2
-returns-then-not-field_ok-2 c =
-    sym (fields_read _ c.byte_at-op.ensures.is c.byte_at.ensures.is c.half_at.ensures.is refl
-    ∙ second_out _ _ _ _ _ c.if-op-lt1.false c.if-op-gt40.false _ c.format_at-kinds.ensures
-    (sym c.field_ok.ensures ∙ not-false _ c.if-not-field_ok.false-raw) (sym c.field_ok-2.ensures ∙ not-true _ c.if-not-field_ok-2.true-raw))
-
-pub returns : goal.returns
-returns c =
-    c.field_ok-3.ensures
-    ∙ sym (fields_read _ c.byte_at-op.ensures.is c.byte_at.ensures.is c.half_at.ensures.is c.full_at.ensures.is
-    ∙ third_is _ _ _ _ _ c.if-op-lt1.false c.if-op-gt40.false _ c.format_at-kinds.ensures
-    (sym c.field_ok.ensures ∙ not-false _ c.if-not-field_ok.false-raw) (sym c.field_ok-2.ensures ∙ not-false _ c.if-not-field_ok-2.false-raw))
+pub returns-else-allow-2 : goal.returns-else-allow-2
+returns-else-allow-2 c =
+    let within : (leb 1 c.byte_at-op.result && leb c.byte_at-op.result 40) ≡ true = search (rules, tests) in
+    elim c.if-allow.branch [
+      | then-allow w ↦
+          c.if-allow-2.false
+          ∙ sym (fields_read _ c.byte_at-op.ensures.is c.byte_at.ensures.is w.half_at.ensures.is refl
+          ∙ fields_are _ _ _ _ _ within _ c.format_at-kinds.ensures
+          ∙ and_yes _ _ (sym c.allow.ensures ∙ w.if-allow.true)
+          ∙ and_no _ _ (sym w.allow-then-allow.ensures ∙ sym w.value-is ∙ c.if-allow-2.false))
+      | else-allow w ↦
+          c.if-allow-2.false
+          ∙ sym (fields_read _ c.byte_at-op.ensures.is c.byte_at.ensures.is refl refl
+          ∙ fields_are _ _ _ _ _ within _ c.format_at-kinds.ensures
+          ∙ and_no _ _ (sym c.allow.ensures ∙ w.if-allow.false))
+    ]

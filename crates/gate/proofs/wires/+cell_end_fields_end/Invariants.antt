@@ -1,6 +1,6 @@
 -- The measure: twice the words that are left, and one more for a list of fields, whose first cell is at its own place.
-use Prim.Native.Nat.{◌+◌, ◌-◌, ◌*◌}
-use lib.ListN.{length}
+use Rattle.std.proofs.Common.{ℕ, ◌+◌, ◌-◌, ◌*◌, ◌≤◌, length, Option}
+use Rattle.gate.specs.Cells.{FieldsEnd}
 use Rattle.gate.proofs.wires.+cell_end_fields_end.Given as goal
 
 abbrev pub decreases-cell_end : goal.decreases-cell_end
@@ -8,3 +8,15 @@ decreases-cell_end l = 2 * (length l.s.now - l.i)
 
 abbrev pub decreases-fields_end : goal.decreases-fields_end
 decreases-fields_end l = 2 * (length l.s.now - l.i) + 1
+
+-- The cells that are still to come end where all of them do.
+abbrev pub invariant-fields_end-loop-k : goal.invariant-fields_end-loop-k
+invariant-fields_end-loop-k l =
+    record {
+      on : l.i ≤ l.end;
+      within : l.end ≤ length l.s;
+      rest : (e : Option ℕ) → FieldsEnd l.s l.end (l.n - l.k) e → FieldsEnd l.s l.i l.n e;
+    }
+
+abbrev pub decreases-fields_end-loop-k : goal.decreases-fields_end-loop-k
+decreases-fields_end-loop-k l = l.n - l.k

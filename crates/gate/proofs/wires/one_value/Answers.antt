@@ -1,12 +1,12 @@
-use mathlib.Core.Path.{sym}
-use Rattle.gate.proofs.Cells.{no_words, only_none, value_ends}
+use Rattle.std.proofs.Common.{refl, ◌∙◌, sym}
+use Rattle.gate.proofs.Cells.{first_other, first_same, only_none, value_ends}
 use Rattle.gate.proofs.wires.one_value.Goals as goal
 
-pub returns-then-s-eq0 : goal.returns-then-s-eq0
-returns-then-s-eq0 c = sym (no_words c.args.s.now c.if-s-eq0.true)
+pub returns-then-ne : goal.returns-then-ne
+returns-then-ne c =
+    c.eq.ensures
+    ∙ value_ends _ _ (first_other _ _ _ c.first.ensures.value (sym c.ne.ensures ∙ c.if-ne.true) refl) c.cell_end.ensures
 
-pub returns-then-s-eq458752 : goal.returns-then-s-eq458752
-returns-then-s-eq458752 c = sym (only_none c.args.s.now c.if-s-eq458752.true)
-
-pub returns : goal.returns
-returns c = value_ends c.args.s.now _ c.if-s-eq0.false c.if-s-eq458752.false c.cell_end.ensures
+pub returns-else-ne : goal.returns-else-ne
+returns-else-ne c =
+    c.if-ne.false ∙ sym (only_none _ (first_same _ _ _ c.first.ensures.value (sym c.ne.ensures ∙ c.if-ne.false)))
