@@ -110,13 +110,10 @@ fn all_values(stack: &[u32], sp: usize, a: usize) -> bool
     requires { (a ≤ sp) × (sp ≤ length stack.now) }
     ensures { (ws : List Word) → Bears stack.now ws → Smalls ws → sp ≡ length ws → result ≡ all is_value (downward ws 0 a) }
 {
-    let mut i = 0;
-    while i < a {
-        let w = stack[sp - (i + 1)];
-        if !is_value(w) {
+    for i in 0..a {
+        if !is_value(stack[sp - (i + 1)]) {
             return false;
         }
-        i += 1;
     }
     true
 }
@@ -126,10 +123,8 @@ fn put_fields(stack: &[u32], sp: usize, heap: &mut [u32], at: usize, a: usize)
     requires { (a ≤ sp) × (sp ≤ length stack.now) × (at + a ≤ length heap.old) }
     ensures { Placed heap.old heap.new at a (from_top stack.now sp) }
 {
-    let mut i = 0;
-    while i < a {
+    for i in 0..a {
         heap[at + i] = stack[sp - (i + 1)];
-        i += 1;
     }
 }
 
@@ -148,9 +143,7 @@ fn put_words(heap: &[u32], from: usize, stack: &mut [u32], at: usize, n: usize)
     requires { (from + n ≤ length heap.now) × (at + n ≤ length stack.old) }
     ensures { Placed stack.old stack.new at n (from_place heap.now from) }
 {
-    let mut i = 0;
-    while i < n {
+    for i in 0..n {
         stack[at + i] = heap[from + i];
-        i += 1;
     }
 }

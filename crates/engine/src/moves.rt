@@ -15,19 +15,14 @@ fn blank(stack: &mut [u32], at: usize, n: usize)
     requires { at + n ≤ length stack.old }
     ensures { stack.new ≡ sets stack.old at (replicate n 0) }
 {
-    if n == 0 {
-        return;
-    }
-    stack[at] = 0;
-    if n == 1 {
-        return;
-    }
-    stack[at + 1] = 0;
-    let end = at + n;
-    let mut k = at + 2;
-    while k < end {
-        stack[k] = 0;
-        k += 1;
+    match n {
+        0 => {}
+        1 => stack[at] = 0,
+        2 => {
+            stack[at] = 0;
+            stack[at + 1] = 0;
+        }
+        _ => stack[at..at + n].fill(0),
     }
 }
 

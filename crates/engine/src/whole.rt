@@ -6,9 +6,5 @@ pub(crate) fn wipe(s: &mut [u32], from: usize)
     requires { from ≤ length s.old }
     ensures { s.new ≡ take from s.old ++ replicate (length s.old - from) 0 }
 {
-    let mut k = from;
-    while k < s.len() {
-        s[k] = 0;
-        k += 1;
-    }
+    s[from..].fill(0);
 }

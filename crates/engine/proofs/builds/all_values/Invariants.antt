@@ -9,7 +9,4 @@ use Rattle.engine.specs.Turns.{Bears, Smalls}
 use Rattle.engine.proofs.builds.all_values.Given as goal
 
 abbrev pub invariant-loop-i : goal.invariant-loop-i
-invariant-loop-i l = (l.i ≤ l.a) × ((ws : List Word) → Bears l.stack ws → Smalls ws → l.sp ≡ length ws → all is_value (downward ws l.i (l.a - l.i)) ≡ all is_value (downward ws 0 l.a))
-
-abbrev pub decreases-loop-i : goal.decreases-loop-i
-decreases-loop-i l = l.a - l.i
+invariant-loop-i l = (ws : List Word) → Bears l.stack ws → Smalls ws → l.sp ≡ length ws → all is_value (downward ws l.i (l.a - l.i)) ≡ all is_value (downward ws 0 l.a)
