@@ -2,19 +2,19 @@
 use mathlib.Core.Path.{◌≡◌, refl, sym, ap, ◌∙◌, subst}
 use mathlib.Core.Bool.{Bool, true, false, not, ◌&&◌, ◌||◌}
 use mathlib.Core.List.{List, [], ◌∷◌, ◌++◌, append_assoc, append-nil}
-use Prim.Native.Nat.{ℕ, zero, suc, ◌+◌, ◌-◌, ◌*◌, ◌/◌, ◌%◌, ◌^◌, ◌≤◌, ◌<◌}
+use Prim.Native.Nat.{ℕ, zero, suc, ◌+◌, ◌-◌, ◌*◌, ◌≤◌, ◌<◌}
 use native.Mathlib.Nat.{suc-add}
 use native.Mathlib.Numerals.{add-one}
 use native.Mathlib.Omega.{arith}
 use borrow.Author.Tests.{eq-eqb, not-false, ne_eqb, le-leb, lt-leb}
-use lib.Dec.{T, eqb, leb, ltb, eqb→eq}
+use lib.Dec.{T, eqb, eqb→eq}
 use lib.ListN.{length, get_or, take, drop, length-append}
 use lib.Seq.{drop-drop, drop-append_seam, drop-cons, drop-length}
 use Rattle.std.specs.Prelude.{Option, Some, None, slice_get}
 use Rattle.std.specs.Option.{option_copied, option_eq}
 use denote.Bor.{Bor}
 use Rattle.hume.specs.Tests.{all}
-use Rattle.hume.specs.Words.{none_header, bool_header, int_header, float_header, tuple_header}
+use Rattle.hume.specs.Words.{none_header, tuple_header}
 use Rattle.hume.specs.Values.{Value, nothing, atom, block, Values, end, more, count, atom_ok, block_ok, good, goods, prefix, prefixes, is_nothing, one_value, wire_count, wire_words, wire_ok}
 use Rattle.laws.proofs.Tests.{of_true, and_left, and_right, and_both, to_false, eqb_of}
 use Rattle.laws.proofs.Values.{atom_header, BlockHeader, block_header, one_value_lem, value_one}
@@ -68,49 +68,6 @@ unfolding prefix
 prefix_some nothing = omega arith
 prefix_some (atom h x) = omega arith
 prefix_some (block h vs) = omega arith
-
--- ---- headers, one after the other
-
-or_false : (b : Bool) → (b || false) ≡ b
-or_false true = refl
-or_false false = refl
-
-module _ (x : ℕ) where
-  pub atom_bool : atom_ok bool_header x ≡ ltb x 2
-  unfolding atom_ok
-  atom_bool = or_false (ltb x 2)
-
-  pub atom_int : atom_ok int_header x ≡ true
-  unfolding atom_ok
-  atom_int = refl
-
-  pub atom_float : atom_ok float_header x ≡ (leb (x % 2 ^ 31) 0x7F800000 || eqb x 0x7FC00000)
-  unfolding atom_ok
-  atom_float = refl
-
-  pub atom_other : (h : ℕ) → (h ≡ bool_header → ⊥) → (h ≡ int_header → ⊥) → (h ≡ float_header → ⊥) → atom_ok h x ≡ false
-  unfolding atom_ok
-  atom_other h b i f = simp (ne_eqb h bool_header b, ne_eqb h int_header i, ne_eqb h float_header f)
-
-module _ (h n : ℕ) where
-  pub block_tuple : h ≡ tuple_header → block_ok h n ≡ leb n 255
-  unfolding block_ok
-  block_tuple e = simp (eq-eqb h tuple_header e, ne_eqb (h / 65536) 6 (λ k. omega arith)) (or_false (leb n 255))
-
-  pub block_constr : h / 65536 ≡ 5 → block_ok h n ≡ leb n 255
-  unfolding block_ok
-  block_constr e =
-      simp (ne_eqb h tuple_header (λ k. omega arith), eq-eqb (h / 65536) 5 e, ne_eqb (h / 65536) 6 (λ k. omega arith))
-      (or_false (leb n 255))
-
-  pub block_exn : h / 65536 ≡ 6 → block_ok h n ≡ eqb n 1
-  unfolding block_ok
-  block_exn e =
-      simp (ne_eqb h tuple_header (λ k. omega arith), eq-eqb (h / 65536) 6 e, ne_eqb (h / 65536) 5 (λ k. omega arith))
-
-  pub block_other : (h ≡ tuple_header → ⊥) → (h / 65536 ≡ 5 → ⊥) → (h / 65536 ≡ 6 → ⊥) → block_ok h n ≡ false
-  unfolding block_ok
-  block_other t k e = simp (ne_eqb h tuple_header t, ne_eqb (h / 65536) 5 k, ne_eqb (h / 65536) 6 e)
 
 -- ---- what a good value has at its front
 

@@ -25,12 +25,6 @@ every_yes n f h = to_true (every_of n f (λ i k. of_true (h i k)))
 pub every_no : (n : ℕ) (f : ℕ → Bool) (i : ℕ) → i < n → f i ≡ false → every n f ≡ false
 every_no n f i k e = to_false (λ t. subst T e (every_at n f t i k))
 
-pub all_yes : (f : ℕ → Bool) (xs : List ℕ) → ((i : ℕ) → i < length xs → f (get_or xs i 0) ≡ true) → all f xs ≡ true
-all_yes f xs h = to_true (all_of f xs 0 (λ i k. of_true (h i k)))
-
-pub all_no : (f : ℕ → Bool) (xs : List ℕ) (i : ℕ) → i < length xs → f (get_or xs i 0) ≡ false → all f xs ≡ false
-all_no f xs i k e = to_false (λ t. subst T e (all_at f xs 0 t i k))
-
 pub and_yes : (a b : Bool) → a ≡ true → (a && b) ≡ b
 and_yes a b e = ap (λ (t : Bool). t && b) e
 

@@ -71,6 +71,26 @@ const INPUT_A: Format = Format {
     ..BARE
 };
 
+const RULESET_A: Format = Format {
+    a: Kind::Ruleset,
+    ..BARE
+};
+
+const PRIMITIVE1_A: Format = Format {
+    a: Kind::Primitive1,
+    ..BARE
+};
+
+const PRIMITIVE2_A: Format = Format {
+    a: Kind::Primitive2,
+    ..BARE
+};
+
+const OUTPUT_A: Format = Format {
+    a: Kind::Output,
+    ..BARE
+};
+
 // By opcode, from 1.
 const FORMATS: [Format; 40] = [
     TRUTH_C, // 1 MkBool
@@ -89,19 +109,10 @@ const FORMATS: [Format; 40] = [
     ANY_A, // 14 MakeVar
     ADDRESS_B, // 15 Goto
     ADDRESS_B, // 16 If
-    Format {
-        a: Kind::Ruleset,
-        ..BARE
-    }, // 17 Call
+    RULESET_A, // 17 Call
     BARE, // 18 Return
-    Format {
-        a: Kind::Primitive1,
-        ..BARE
-    }, // 19 CallPrim1
-    Format {
-        a: Kind::Primitive2,
-        ..BARE
-    }, // 20 CallPrim2
+    PRIMITIVE1_A, // 19 CallPrim1
+    PRIMITIVE2_A, // 20 CallPrim2
     ANY_B, // 21 Raise
     BARE, // 22 StartMatches
     BARE, // 23 MatchRule
@@ -120,10 +131,7 @@ const FORMATS: [Format; 40] = [
     INPUT_A, // 36 Consume
     INPUT_A, // 37 MaybeConsume
     BARE, // 38 CheckOutputs
-    Format {
-        a: Kind::Output,
-        ..BARE
-    }, // 39 Write
+    OUTPUT_A, // 39 Write
     BARE, // 40 Schedule
 ];
 

@@ -39,13 +39,11 @@ pub fn layout(image: &[u8]) -> Layout
 {
     let mut at = [11usize; 33];
     let mut order = [0usize; 33];
-    let mut k = 0;
-    while k < 32 {
+    for k in 0..32 {
         let p = at[k];
         let count = image::byte_at(image, p + 2);
         at[k + 1] = p + 3 + 2 * count;
         order[k + 1] = order[k] + count;
-        k += 1;
     }
     Layout { at, order }
 }

@@ -12,17 +12,12 @@ fn permutation_ok(s: &[u32]) -> bool
     ensures { result ≡ permutation (length s.now) s.now }
 {
     let mut seen = [false; 16];
-    let mut i = 0;
-    while i < s.len() {
-        let x = s[i] as usize;
-        if s.len() <= x {
-            return false;
-        }
-        if seen[x] {
+    for &x in s {
+        let x = x as usize;
+        if s.len() <= x || seen[x] {
             return false;
         }
         seen[x] = true;
-        i += 1;
     }
     true
 }
@@ -38,14 +33,10 @@ pub(crate) fn order_ok(image: &[u8], order: &[u32]) -> bool
     if order.len() != places[rulesets] {
         return false;
     }
-    let mut r = 0;
-    while r < rulesets {
-        let from = places[r];
-        let to = places[r + 1];
-        if !permutation_ok(&order[from..to]) {
+    for r in 0..rulesets {
+        if !permutation_ok(&order[places[r]..places[r + 1]]) {
             return false;
         }
-        r += 1;
     }
     true
 }

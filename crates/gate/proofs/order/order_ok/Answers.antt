@@ -1,7 +1,6 @@
 use mathlib.Core.Path.{sym, ◌∙◌}
 use native.Mathlib.Omega.{arith}
-use borrow.Author.Count.{below_none, below_more}
-use borrow.Author.Tests.{not-true, not-false}
+use borrow.Author.Count.{below_more}
 use Rattle.hume.specs.Image.{program}
 use Rattle.gate.proofs.Lent.{rulesets_few, whole_order, lent_part, order_long, order_out, order_in}
 use Rattle.gate.proofs.order.order_ok.Goals as goal
@@ -20,18 +19,12 @@ returns-then-order-places c =
     (e ∙ sym (whole_order c.args.image.now c.args.order.now c.layout-begins.result.order c.requires _
     c.byte_at-rulesets.ensures.is c.layout-begins.ensures.ordered))))
 
-pub loop-r-init : goal.loop-r-init
-loop-r-init c = (omega arith, below_none _)
-
 pub bounds-places-r : goal.bounds-places-r
 bounds-places-r c =
     let few =
     rulesets_few c.args.image.now c.args.order.now c.layout-begins.result.order c.requires _
     c.byte_at-rulesets.ensures.is in
     omega (arith, c.loop-r-test.true)
-
-pub overflow_add-to : goal.overflow_add-to
-overflow_add-to c = omega arith
 
 pub bounds-places-r-in-loop-r : goal.bounds-places-r-in-loop-r
 bounds-places-r-in-loop-r c =
@@ -40,8 +33,8 @@ bounds-places-r-in-loop-r c =
     c.byte_at-rulesets.ensures.is in
     omega (arith, c.loop-r-test.true)
 
-pub offset_bounds-order-from : goal.offset_bounds-order-from
-offset_bounds-order-from c = let p = lent_part c.args.image.now c.args.order.now c.layout-begins.result.order c.requires _ c.byte_at-rulesets.ensures.is
+pub offset_bounds-order-places : goal.offset_bounds-order-places
+offset_bounds-order-places c = let p = lent_part c.args.image.now c.args.order.now c.layout-begins.result.order c.requires _ c.byte_at-rulesets.ensures.is
     c.layout-begins.ensures.ordered c.if-order-places.false c.loop-r.r c.loop-r-test.true in omega (arith, p.up, p.within, c.well_formed)
 
 pub slice_bounds-permutation_ok-count : goal.slice_bounds-permutation_ok-count
@@ -65,21 +58,13 @@ returns-then-not-permutation_ok c =
     let p = lent_part c.args.image.now c.args.order.now c.layout-begins.result.order c.requires _ c.byte_at-rulesets.ensures.is
     c.layout-begins.ensures.ordered c.if-order-places.false c.loop-r.r c.loop-r-test.true in
     sym (order_out (program c.args.image.now) c.args.order.now p.long c.loop-r.r p.low
-    (p.is ∙ sym c.permutation_ok.ensures ∙ not-true _ c.if-not-permutation_ok.true-raw))
-
-pub overflow_add-r : goal.overflow_add-r
-overflow_add-r c = omega arith
-
-pub loop-r-smaller : goal.loop-r-smaller
-loop-r-smaller c = omega arith
+    (p.is ∙ sym c.permutation_ok.ensures ∙ c.if-not-permutation_ok.true))
 
 pub loop-r-preserved : goal.loop-r-preserved
-loop-r-preserved c = (
-  omega arith,
-  below_more _ _ c.loop-r.invariant.1
-      ((lent_part c.args.image.now c.args.order.now c.layout-begins.result.order c.requires _ c.byte_at-rulesets.ensures.is
-      c.layout-begins.ensures.ordered c.if-order-places.false c.loop-r.r c.loop-r-test.true).is ∙ sym c.permutation_ok.ensures ∙ not-false _ c.if-not-permutation_ok.false-raw),
-)
+loop-r-preserved c =
+    below_more _ _ c.loop-r.invariant
+    ((lent_part c.args.image.now c.args.order.now c.layout-begins.result.order c.requires _ c.byte_at-rulesets.ensures.is
+    c.layout-begins.ensures.ordered c.if-order-places.false c.loop-r.r c.loop-r-test.true).is ∙ sym c.permutation_ok.ensures ∙ c.if-not-permutation_ok.false)
 
 pub returns : goal.returns
 unfolding program
@@ -88,4 +73,4 @@ returns c =
     (c.if-order-places.false
     ∙ whole_order c.args.image.now c.args.order.now c.layout-begins.result.order c.requires _
     c.byte_at-rulesets.ensures.is c.layout-begins.ensures.ordered)
-    (λ j h. c.loop-r.invariant.1 j (omega (arith, c.byte_at-rulesets.ensures.is, c.loop-r-test.false))))
+    (λ j h. c.loop-r.invariant j (omega (arith, c.byte_at-rulesets.ensures.is, c.loop-r-test.false))))

@@ -1,12 +1,8 @@
-use mathlib.Core.Path.{◌≡◌}
-use mathlib.Core.Bool.{true}
-use Prim.Native.Nat.{ℕ, ◌-◌, ◌≤◌, ◌<◌}
+use Rattle.std.proofs.Common.{◌≡◌, true, ℕ, ◌<◌}
 use Rattle.hume.specs.Image.{program}
 use Rattle.hume.specs.Refusals.{permutation, order_of}
 use Rattle.gate.proofs.order.order_ok.Given as goal
 
 abbrev pub invariant-loop-r : goal.invariant-loop-r
-invariant-loop-r l = (l.r ≤ l.rulesets) × ((j : ℕ) → j < l.r → permutation ((program l.image).count j) (order_of (program l.image) l.order j) ≡ true)
-
-abbrev pub decreases-loop-r : goal.decreases-loop-r
-decreases-loop-r l = l.rulesets - l.r
+invariant-loop-r l =
+    (j : ℕ) → j < l.r → permutation ((program l.image).count j) (order_of (program l.image) l.order j) ≡ true

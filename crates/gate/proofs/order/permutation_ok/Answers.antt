@@ -1,56 +1,43 @@
-use mathlib.Core.Path.{refl, sym, ◌∙◌}
-use mathlib.Core.Bool.{true, false}
-use native.Mathlib.Omega.{arith}
-use borrow.Author.Count.{below_none, below_more}
-use lib.ListN.{get_or, length-set, get_or-replicate}
+use Rattle.std.proofs.Common.{◌<◌, false, true, get_or, length-set, sym, ◌∙◌, arith, below_none, below_more}
+use lib.ListN.{get_or-replicate}
 use Rattle.hume.specs.Refusals.{among}
 use Rattle.gate.proofs.Lent.{order_high, order_twice, order_right, seen_more}
 use Rattle.gate.proofs.order.permutation_ok.Goals as goal
+use Rattle.gate.proofs.order.permutation_ok.Goals.{then-s-x-via-then-s-x, then-s-x-via-else-s-x+then-seen-x}
 
-pub loop-i-init : goal.loop-i-init
+pub loop-x-init : goal.loop-x-init
 unfolding among
-loop-i-init c =
-    (omega arith, refl, below_none _, below_none _, λ x h. get_or-replicate 16 x false false h)
-
-pub bounds-s-i : goal.bounds-s-i
-bounds-s-i c = omega arith
-
-pub overflow_cast-x : goal.overflow_cast-x
-overflow_cast-x c = omega (arith, c.shared_slice_known-1.given c.loop-i.i)
+loop-x-init c =
+    record {
+      long = omega arith;
+      low = below_none _;
+      once = below_none _;
+      marked = λ y h. get_or-replicate 16 y false false h;
+    }
 
 pub returns-then-s-x : goal.returns-then-s-x
-returns-then-s-x c = sym (order_high c.args.s.now c.loop-i.i c.loop-i-test.true c.if-s-x.true)
+returns-then-s-x c =
+    let i = c.loop-x.x-index in
+    elim c.then-s-x.branch [
+      | then-s-x-via-then-s-x w ↦ sym (order_high c.args.s.now i c.loop-x-test.true w.if-s-x.true)
+      | then-s-x-via-else-s-x+then-seen-x w ↦
+          sym (order_twice c.args.s.now i c.loop-x-test.true
+          (sym (c.loop-x.invariant.marked _ (omega (arith, w.if-s-x.false, c.requires))) ∙ w.if-seen-x.true))
+    ]
 
-pub bounds-seen-x : goal.bounds-seen-x
-bounds-seen-x c = omega arith
-
-pub returns-then-seen-x : goal.returns-then-seen-x
-returns-then-seen-x c =
-    sym (order_twice c.args.s.now c.loop-i.i c.loop-i-test.true
-    (sym (c.loop-i.invariant.4 _ (omega (arith, c.if-s-x.false, c.requires))) ∙ c.if-seen-x.true))
-
-pub bounds-seen-x-in-loop-i : goal.bounds-seen-x-in-loop-i
-bounds-seen-x-in-loop-i c = omega arith
-
-pub overflow_add-i : goal.overflow_add-i
-overflow_add-i c = omega arith
-
-pub loop-i-smaller : goal.loop-i-smaller
-loop-i-smaller c = omega arith
-
-pub loop-i-preserved : goal.loop-i-preserved
-loop-i-preserved c = (
-  omega arith,
-  length-set c.loop-i.seen (get_or c.args.s.now c.loop-i.i 0) true
-      ∙ c.loop-i.invariant.1,
-  below_more _ _ c.loop-i.invariant.2 c.if-s-x.false,
-  below_more _ _ c.loop-i.invariant.3
-      (sym (c.loop-i.invariant.4 _ (omega (arith, c.if-s-x.false, c.requires))) ∙ c.if-seen-x.false),
-  seen_more c.args.s.now
-      c.loop-i.i c.loop-i-test.true c.loop-i.seen (omega (arith, c.if-s-x.false, c.requires, c.loop-i.invariant.1)) c.loop-i.invariant.4,
-)
+pub loop-x-preserved : goal.loop-x-preserved
+loop-x-preserved c =
+    let old = c.loop-x.invariant in
+    let i = c.loop-x.x-index in
+    let low : get_or c.args.s.now i 0 < 16 = omega (arith, c.if-s-x.false, c.requires) in
+    record {
+      long = length-set c.loop-x.seen (get_or c.args.s.now i 0) true ∙ old.long;
+      low = below_more _ _ old.low c.if-s-x.false;
+      once = below_more _ _ old.once (sym (old.marked _ low) ∙ c.if-seen-x.false);
+      marked = seen_more c.args.s.now i c.loop-x-test.true c.loop-x.seen (omega (arith, low, old.long)) old.marked;
+    }
 
 pub returns : goal.returns
 returns c =
-    sym (order_right c.args.s.now (λ j h. c.loop-i.invariant.2 j (omega (arith, c.loop-i-test.false)))
-    (λ j h. c.loop-i.invariant.3 j (omega (arith, c.loop-i-test.false))))
+    sym (order_right c.args.s.now (λ j h. c.loop-x.invariant.low j (omega (arith, c.loop-x-test.false)))
+    (λ j h. c.loop-x.invariant.once j (omega (arith, c.loop-x-test.false))))

@@ -1,16 +1,12 @@
-use mathlib.Core.Path.{◌≡◌}
-use mathlib.Core.Bool.{false}
-use Prim.Native.Nat.{ℕ, ◌-◌, ◌≤◌, ◌<◌}
-use lib.ListN.{length, get_or, take}
+use Rattle.std.proofs.Common.{◌≡◌, false, ℕ, ◌<◌, length, get_or, take}
 use Rattle.hume.specs.Refusals.{among}
 use Rattle.gate.proofs.order.permutation_ok.Given as goal
 
-abbrev pub invariant-loop-i : goal.invariant-loop-i
-invariant-loop-i l = (l.i ≤ length l.s)
-    × (length l.seen ≡ 16)
-    × ((j : ℕ) → j < l.i → get_or l.s j 0 < length l.s)
-    × ((j : ℕ) → j < l.i → among (get_or l.s j 0) (take j l.s) ≡ false)
-    × ((x : ℕ) → x < 16 → get_or l.seen x false ≡ among x (take l.i l.s))
-
-abbrev pub decreases-loop-i : goal.decreases-loop-i
-decreases-loop-i l = length l.s - l.i
+abbrev pub invariant-loop-x : goal.invariant-loop-x
+invariant-loop-x l =
+    record {
+      long : length l.seen ≡ 16;
+      low : (j : ℕ) → j < l.x-index → get_or l.s j 0 < length l.s;
+      once : (j : ℕ) → j < l.x-index → among (get_or l.s j 0) (take j l.s) ≡ false;
+      marked : (y : ℕ) → y < 16 → get_or l.seen y false ≡ among y (take l.x-index l.s);
+    }
