@@ -4,8 +4,9 @@ use mathlib.Core.List.{List, [], ◌∷◌, ◌++◌, append_assoc}
 use Prim.Native.Nat.{ℕ, zero, suc, ◌+◌, ◌≤◌, ◌<◌}
 use native.Mathlib.Numerals.{add-one}
 use native.Mathlib.Omega.{arith}
-use lib.ListN.{length, get_or, set, take, drop}
-use borrow.Rule.Slice.PartMut.{mid_of, post_of, put_mid}
+use lib.ListN.{length, get_or, take, drop, length-drop}
+use Rattle.std.proofs.lemmas.List.{length-take}
+use borrow.Rule.Slice.PartMut.{post_of, put_mid}
 use lib.Seq.{length-take-le, drop-cons, set_at, take_at, take-append-add}
 use Rattle.hume.specs.Image.{Program, program, byte}
 use Rattle.hume.specs.Refusals.{image_refusal}
@@ -14,14 +15,6 @@ use Rattle.laws.specs.Accepted.{Accepted}
 use Rattle.laws.proofs.Passed.{image_passed}
 use Rattle.laws.proofs.Accepted.{accepted}
 
--- one more word
-filled : (xs l : List ℕ) (i x : ℕ) → length xs ≡ i → i < length l → set (xs ++ drop i l) i x ≡ (xs ++ x ∷ []) ++ drop (i + 1) l
-filled xs l i x e h =
-    ap (λ (t : List ℕ). set (xs ++ t) i x) (drop-cons l i 0 h)
-    ∙ set_at xs (get_or l i 0) (drop (suc i) l) x i e
-    ∙ sym (append_assoc xs (x ∷ []) (drop (suc i) l))
-    ∙ ap (λ (n : ℕ). (xs ++ x ∷ []) ++ drop n l) (sym (add-one i))
-
 -- ---- the words of a sheet
 
 pub words_length : (s : List ℕ) (i n : ℕ) → length (sheet_words s i n) ≡ n
@@ -29,23 +22,18 @@ unfolding sheet_words
 words_length s i zero = refl
 words_length s i (suc n) = ap suc (words_length s (i + 1) n)
 
-words_snoc : (s : List ℕ) (i n : ℕ) → sheet_words s i n ++ (sheet_word s (i + n) ∷ []) ≡ sheet_words s i (suc n)
+-- as many words as there is room for, each in its place
+pub words_written : (s out : List ℕ) (from : ℕ)
+    → ((k : ℕ) → k < length out → get_or out k 0 ≡ sheet_word s (from + k))
+    → out ≡ sheet_words s from (length out)
 unfolding sheet_words
-words_snoc s i zero =
-    let e : i + 0 ≡ i = omega arith in
-    ap (λ (k : ℕ). sheet_word s k ∷ []) e
-words_snoc s i (suc n) =
-    let e : i + suc n ≡ i + 1 + n = omega arith in
-    ap (λ (k : ℕ). sheet_word s i ∷ (sheet_words s (i + 1) n ++ (sheet_word s k ∷ []))) e
-    ∙ ap (λ (t : List ℕ). sheet_word s i ∷ t) (words_snoc s (i + 1) n)
-
-pub words_next : (s out : List ℕ) (from i x : ℕ) → i < length out → x ≡ sheet_word s (from + i)
-    → set (sheet_words s from i ++ drop i out) i x ≡ sheet_words s from (i + 1) ++ drop (i + 1) out
-words_next s out from i x h e =
-    filled (sheet_words s from i) out i x (words_length s from i) h
-    ∙ ap (λ (y : ℕ). (sheet_words s from i ++ (y ∷ [])) ++ drop (i + 1) out) e
-    ∙ ap (λ (t : List ℕ). t ++ drop (i + 1) out) (words_snoc s from i)
-    ∙ ap (λ (n : ℕ). sheet_words s from n ++ drop (i + 1) out) (sym (add-one i))
+words_written s [] from h = refl
+words_written s (x ∷ out) from h =
+    let e : from + 0 ≡ from = omega arith in
+    let here : x ≡ sheet_word s from = h 0 (omega arith) ∙ ap (λ (i : ℕ). sheet_word s i) e in
+    let there : (k : ℕ) → k < length out → get_or out k 0 ≡ sheet_word s (from + 1 + k) =
+    λ k q. let n : from + suc k ≡ from + 1 + k = omega arith in h (suc k) (omega (arith, q)) ∙ ap (λ (i : ℕ). sheet_word s i) n in
+    λ j. here j ∷ words_written s out (from + 1) there j
 
 -- ---- the first order
 
@@ -54,23 +42,16 @@ unfolding counting
 counting_length i zero = refl
 counting_length i (suc n) = ap suc (counting_length (i + 1) n)
 
-counting_snoc : (i n : ℕ) → counting i n ++ ((i + n) ∷ []) ≡ counting i (suc n)
+-- numbers that count up, each in its place
+pub counting_written : (order : List ℕ) (i : ℕ) → ((k : ℕ) → k < length order → get_or order k 0 ≡ i + k)
+    → order ≡ counting i (length order)
 unfolding counting
-counting_snoc i zero =
-    let e : i + 0 ≡ i = omega arith in
-    ap (λ (k : ℕ). k ∷ []) e
-counting_snoc i (suc n) =
-    let e : i + suc n ≡ i + 1 + n = omega arith in
-    ap (λ (k : ℕ). i ∷ (counting (i + 1) n ++ (k ∷ []))) e ∙ ap (λ (t : List ℕ). i ∷ t) (counting_snoc (i + 1) n)
-
-pub counting_next : (order : List ℕ) (i : ℕ) → i < length order
-    → set (counting 0 i ++ drop i order) i i ≡ counting 0 (i + 1) ++ drop (i + 1) order
-counting_next order i h =
-    let e : 0 + i ≡ i = omega arith in
-    filled (counting 0 i) order i i (counting_length 0 i) h
-    ∙ ap (λ (y : ℕ). (counting 0 i ++ (y ∷ [])) ++ drop (i + 1) order) (sym e)
-    ∙ ap (λ (t : List ℕ). t ++ drop (i + 1) order) (counting_snoc 0 i)
-    ∙ ap (λ (n : ℕ). counting 0 n ++ drop (i + 1) order) (sym (add-one i))
+counting_written [] i h = refl
+counting_written (x ∷ order) i h =
+    let here : x ≡ i = h 0 (omega arith) ∙ (omega arith) in
+    let there : (k : ℕ) → k < length order → get_or order k 0 ≡ i + 1 + k =
+    λ k q. let n : i + suc k ≡ i + 1 + k = omega arith in h (suc k) (omega (arith, q)) ∙ n in
+    λ j. here j ∷ counting_written order (i + 1) there j
 
 pub order_next : (P : Program) (r n : ℕ) → n ≡ P.count r → first_order P r ++ counting 0 n ≡ first_order P (r + 1)
 unfolding first_order
@@ -99,11 +80,10 @@ take_both xs ys zs a b e f =
     ∙ take-append-add xs (ys ++ zs) b
     ∙ ap (λ (t : List ℕ). xs ++ t) (take_at ys zs b f)
 
-pub order_part : (order last : List ℕ) (done k n : ℕ) → done ≤ length order → last ≡ counting 0 n ++ drop n (mid_of done k order)
-    → take (done + n) (put_mid done k order last) ≡ take done order ++ counting 0 n
-order_part order last done k n h e =
-    let rest = drop n (mid_of done k order) in
-    ap (λ (t : List ℕ). take (done + n) (take done order ++ (t ++ post_of done k order))) e
-    ∙ ap (λ (t : List ℕ). take (done + n) (take done order ++ t)) (append_assoc (counting 0 n) rest (post_of done k order))
-    ∙ take_both (take done order) (counting 0 n) (rest ++ post_of done k order) done n (length-take-le done order h)
-    (counting_length 0 n)
+pub order_part : (order last : List ℕ) (done w n : ℕ) → done + n ≤ length order → w ≡ n
+    → last ≡ counting 0 (length (take w (drop done order)))
+    → take (done + n) (put_mid done w order last) ≡ take done order ++ counting 0 n
+order_part order last done w n h e l =
+    let long : length (take w (drop done order)) ≡ n = omega (arith, length-take {A = ℕ}, length-drop {A = ℕ}) in
+    ap (λ (t : List ℕ). take (done + n) (put_mid done w order t)) (l ∙ ap (λ (k : ℕ). counting 0 k) long)
+    ∙ take_both (take done order) (counting 0 n) (post_of done w order) done n (length-take-le done order (omega (arith, h))) (counting_length 0 n)

@@ -1,5 +1,5 @@
 // A run sheet's words, and the rule order that a run starts with.
-ghost use Rattle.std.specs.Prelude.{◌≡◌, ◌++◌, ◌+◌, ◌≤◌, length, take, drop};
+ghost use Rattle.std.specs.Prelude.{◌≡◌, ◌+◌, ◌≤◌, length, take};
 ghost use Rattle.hume.specs.Image.{program};
 ghost use Rattle.hume.specs.Refusals.{image_refusal};
 ghost use Rattle.hume.specs.Sheet.{sheet_word, sheet_words, counting, first_order};
@@ -14,27 +14,23 @@ pub(crate) fn word(sheet: &[u8], i: usize) -> u32
     full_at(sheet, 4 * i) as u32
 }
 
-// n words of the sheet, from the word `from` on.
-pub(crate) fn words(sheet: &[u8], from: usize, n: usize, out: &mut [u32])
-    requires { (from + n ≤ 1000) × (n ≤ length out.old) }
-    ensures { out.new ≡ sheet_words sheet.now from n ++ drop n out.old }
+// The words of the sheet from the word `from` on, as many as there is room for.
+pub(crate) fn words(sheet: &[u8], from: usize, out: &mut [u32])
+    requires { from + length out.old ≤ 1000 }
+    ensures { out.new ≡ sheet_words sheet.now from (length out.old) }
 {
-    let mut i = 0;
-    while i < n {
-        out[i] = word(sheet, from + i);
-        i += 1;
+    for (i, place) in out.iter_mut().enumerate() {
+        *place = word(sheet, from + i);
     }
 }
 
 // "order 0, 1, 2..." of one ruleset.
-fn count_up(order: &mut [u32], n: usize)
-    requires { (n ≤ 16) × (n ≤ length order.old) }
-    ensures { order.new ≡ counting 0 n ++ drop n order.old }
+fn count_up(order: &mut [u32])
+    requires { length order.old ≤ 16 }
+    ensures { order.new ≡ counting 0 (length order.old) }
 {
-    let mut i = 0;
-    while i < n {
-        order[i] = i as u32;
-        i += 1;
+    for (i, rule) in order.iter_mut().enumerate() {
+        *rule = i as u32;
     }
 }
 
@@ -44,16 +40,13 @@ pub(crate) fn first_order(image: &[u8], order: &mut [u32]) -> usize
     requires in_bounds { 512 ≤ length order.old }
     ensures { (result ≤ 512) × (take result order.new ≡ first_order (program image.now) (program image.now).rulesets) }
 {
-    let rulesets = byte_at(image, 7);
     let mut at = 11;
     let mut done = 0;
-    let mut r = 0;
-    while r < rulesets {
+    for _r in 0..byte_at(image, 7) {
         let n = byte_at(image, at + 2);
-        count_up(&mut order[done..], n);
+        count_up(&mut order[done..done + n]);
         done += n;
         at += 3 + 2 * n;
-        r += 1;
     }
     done
 }

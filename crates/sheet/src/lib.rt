@@ -85,8 +85,8 @@ fn run_sheet(image: &[u8], sheet: &[u8], figures: &mut [u32; 8]) -> u32
     let mut order = [0u32; 512];
     let inputs = 65 * byte_at(image, 5);
     let both = inputs + 65 * byte_at(image, 6);
-    words(sheet, 5, 40, &mut card);
-    words(sheet, 45, inputs, &mut wires);
+    words(sheet, 5, &mut card);
+    words(sheet, 45, &mut wires[..inputs]);
     let rules = first_order(image, &mut order);
     ham_run(
         image,
