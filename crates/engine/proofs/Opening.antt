@@ -37,8 +37,8 @@ use Rattle.laws.specs.Accepted.{Bytes, Words32}
 use Rattle.laws.proofs.Passed.{image_passed, call_passed}
 use Rattle.reach.proofs.Demands.{allowed, demand1}
 use Rattle.gate.specs.Verdicts.{number, given}
-use Rattle.gate.specs.declared.image.Verdict.{Verdict}
-use Rattle.gate.specs.declared.image.Verdict.TheVariants as verdict
+use Rattle.std.specs.Prelude.{Ok, Err}
+use Rattle.gate.specs.declared.refusals.Refusal.{Refusal}
 use Rattle.gate.proofs.Unique.{one_verdict}
 use Rattle.engine.specs.Reports.{told}
 use Rattle.engine.specs.Endings.{ending, refusal as refusedReport}
@@ -236,23 +236,15 @@ module _ (m card : List ℕ) (T S H : ℕ) (st he wi or : List ℕ) (e : refusal
         ∙ told_over g r d b' st' he' o ls lh ws wh
         ∙ sym ((demand1 g).accepts e)
 
-number_accepted : number verdict.Accepted ≡ 0
-unfolding number
-number_accepted = refl
-
 -- a call that is turned away
-pub turned_away : (m card : List ℕ) (T S H : ℕ) (st he wi or : List ℕ) (q : Report) (v : Verdict)
-    → number v ≡ refusal (given m card T S H st he wi or) → (v ≡ verdict.Accepted → ⊥) → q ≡ refusedReport v
+pub turned_away : (m card : List ℕ) (T S H : ℕ) (st he wi or : List ℕ) (q : Report) (r : Refusal)
+    → number (Err r) ≡ refusal (given m card T S H st he wi or) → q ≡ refusedReport r
     → told q (buffers st he wi or) ≡ answer (given m card T S H st he wi or)
-turned_away m card T S H st he wi or q v e n p = by (number v) refl
+turned_away m card T S H st he wi or q r e p = by (number (Err r)) refl
   where
-    by : (k : ℕ) → number v ≡ k → told q (buffers st he wi or) ≡ answer (given m card T S H st he wi or)
-    by zero z = absurd (n (one_verdict v verdict.Accepted (z ∙ sym number_accepted)))
+    by : (k : ℕ) → number (Err r) ≡ k → told q (buffers st he wi or) ≡ answer (given m card T S H st he wi or)
+    by zero z = absurd (let same = one_verdict (Err r) (Ok tt) z in cc)
     by (suc k) z =
         ap (λ (x : Report). told x (buffers st he wi or)) p
-        ∙ told_refused (given m card T S H st he wi or) v (suc k) z
+        ∙ told_refused (given m card T S H st he wi or) r (suc k) z
         ∙ sym ((demand1 (given m card T S H st he wi or)).refuses k (sym e ∙ z))
-
--- and one that isn't
-pub no_number : {v : Verdict} {n : ℕ} → number v ≡ n → v ≡ verdict.Accepted → n ≡ 0
-no_number e a = sym e ∙ ap number a ∙ number_accepted

@@ -7,8 +7,9 @@ use Rattle.limits.specs.Machine.{Ending as Halt, own, limit}
 use Rattle.limits.specs.Machine.{Time as Time', Stack as Stack', Heap as Heap'}
 use Rattle.hume.specs.State.{End, finished, blocked, fault, no_rule, unhandled}
 use Rattle.hume.specs.Call.{Given, Answer, ending_of, detail_of, figures_of, area, outcome, ran, refused}
+use Rattle.std.specs.Prelude.{Err}
 use Rattle.gate.specs.Verdicts.{number}
-use Rattle.gate.specs.declared.image.Verdict.{Verdict}
+use Rattle.gate.specs.declared.refusals.Refusal.{Refusal}
 use Rattle.engine.specs.Turns.{Buffers, buffers}
 use Rattle.engine.specs.Running.{run_of, halt_of, Over}
 use Rattle.engine.specs.Reports.{ending_number, detail_number, reported, told}
@@ -48,7 +49,7 @@ pub told_over : (g : Given) (r : Regs) (e : Ending) (b : Buffers) (st he : List 
     → length b.stack ≡ length g.stack → length b.heap ≡ length g.heap → Wiped b.stack r.sp st
     → Wiped b.heap r.hp he
     → told (ending e r g.limits.time) (buffers st he b.wires b.order) ≡ ran g (outcome g)
-unfolding told reported ran figures_of number
+unfolding told reported ran figures_of
 told_over g r e b st he o ls lh ws wh =
     let n : ending_number e ≡ ending_of o.ending = ap ending_number o.is ∙ ending_number_lem o.ending in
     let d : detail_number e ≡ detail_of o.ending = ap detail_number o.is ∙ detail_number_lem o.ending in
@@ -84,7 +85,7 @@ told_over g r e b st he o ls lh ws wh =
     same ∙ ap (ran g) (sym o.same)
 
 -- a call that is turned away
-pub told_refused : (g : Given) (v : Verdict) (n : ℕ) → number v ≡ n
-    → told (refusal v) (buffers g.stack g.heap g.wires g.order) ≡ refused g n
+pub told_refused : (g : Given) (r : Refusal) (n : ℕ) → number (Err r) ≡ n
+    → told (refusal r) (buffers g.stack g.heap g.wires g.order) ≡ refused g n
 unfolding told reported refused ending_number detail_number
-told_refused g v n e = rw e
+told_refused g r n e = rw e

@@ -1,22 +1,21 @@
 -- The two forms of a report.
-use Rattle.std.specs.Prelude.{ℕ, ◌-◌}
-use Rattle.gate.specs.declared.image.Verdict.{Verdict}
-use Rattle.gate.specs.declared.image.Verdict.TheVariants as verdict
+use Rattle.std.specs.Prelude.{ℕ, ◌-◌, Ok, Err}
+use Rattle.gate.specs.declared.refusals.Refusal.{Refusal}
 use Rattle.engine.specs.declared.Ending.{Ending}
 use Rattle.engine.specs.declared.Ending.TheVariants.{Finished}
 use Rattle.engine.specs.declared.Report.{Report}
 use Rattle.engine.specs.declared.regs.Regs.{Regs}
 
 -- "the number with all figures 0"
-abbrev pub refusal : Verdict → Report
-refusal v =
-    record { verdict = v; ending = Finished; pc = 0; steps = 0; time = 0; peak = 0; depth = 0; heap = 0 }
+abbrev pub refusal : Refusal → Report
+refusal r =
+    record { verdict = Err r; ending = Finished; pc = 0; steps = 0; time = 0; peak = 0; depth = 0; heap = 0 }
 
 -- the figures of the registers, of so much time in all
 abbrev pub ending : Ending → Regs → ℕ → Report
 ending e s time =
     record {
-      verdict = verdict.Accepted;
+      verdict = Ok tt;
       ending = e;
       pc = s.pc;
       steps = s.steps;

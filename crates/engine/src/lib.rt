@@ -23,7 +23,7 @@ ghost use Rattle.engine.specs.Turns.{buffers};
 ghost use Rattle.engine.specs.Reports.{told};
 ghost use Rattle.engine.specs.Endings.{refusal, ending, beginning};
 
-use gate::{Verdict, layout, verdict};
+use gate::{Refusal, layout, verdict};
 use image::entry_of;
 use prims::CYCLES;
 use regs::{Limits, Regs};
@@ -46,7 +46,7 @@ pub enum Ending {
 // What a call returns: the refusal, or the ending and "pc, steps charged, time, peak depth (0 at the start), depth, heap".
 #[derive(Clone, Copy)]
 pub struct Report {
-    pub verdict: Verdict,
+    pub verdict: Result<(), Refusal>,
     pub ending: Ending,
     pub pc: u32,
     pub steps: u32,
@@ -56,12 +56,13 @@ pub struct Report {
     pub heap: u32,
 }
 
-// "A call turned away returns the number with all figures 0"
-fn refuse(v: Verdict) -> Report
-    ensures { result ≡ refusal v }
+// "A call turned away returns the number with all figures 0": they stand beside the refusal, and not in an `Ok` in its
+// place, since `told` promises all eight of either call.
+fn refuse(r: Refusal) -> Report
+    ensures { result ≡ refusal r }
 {
     Report {
-        verdict: v,
+        verdict: Err(r),
         ending: Ending::Finished,
         pc: 0,
         steps: 0,
@@ -78,7 +79,7 @@ fn sum_up(e: Ending, s: Regs, time: u32) -> Report
     ensures { result ≡ ending e s time }
 {
     Report {
-        verdict: Verdict::Accepted,
+        verdict: Ok(()),
         ending: e,
         pc: s.pc as u32,
         steps: s.steps as u32,
@@ -146,7 +147,6 @@ fn run_accepted(
 }
 
 // One box, one activation, from empty stack and heap to an ending: any image, card, limits, areas, wires and order may be handed in.
-#[tactic(auto, using(crate::proofs::Opening::no_number))]
 pub fn run(
     image: &[u8],
     card: &[u32],
@@ -160,10 +160,8 @@ pub fn run(
 ) -> Report
     ensures { told result (buffers stack.new heap.new wires.new order.new) ≡ answer (given image.now card.now t s h stack.old heap.old wires.old order.old) }
 {
-    let v = verdict(image, card, t, s, h, stack, heap, wires, order);
-    if let Verdict::Accepted = v {
-        run_accepted(image, card, t, s, h, stack, heap, wires, order)
-    } else {
-        refuse(v)
+    match verdict(image, card, t, s, h, stack, heap, wires, order) {
+        Ok(()) => run_accepted(image, card, t, s, h, stack, heap, wires, order),
+        Err(r) => refuse(r),
     }
 }

@@ -1,18 +1,18 @@
 -- Laws of the image's counts and of its ruleset table, read from the front.
-use mathlib.Core.Path.{◌≡◌, refl, sym, ap, ◌∙◌}
+use mathlib.Core.Path.{◌≡◌, sym, ap, ◌∙◌}
 use mathlib.Core.Bool.{true, false, ◌&&◌, ◌||◌}
 use mathlib.Core.List.{List}
 use Prim.Native.Nat.{ℕ, zero, suc, ◌+◌, ◌*◌, ◌≤◌, ◌<◌}
 use native.Mathlib.Numerals.{add-one}
 use native.Mathlib.Omega.{arith}
 use borrow.Author.Count.{below_more}
-use borrow.Author.Tests.{le-leb, lt-leb, lt-ltb, le-ltb, eq-eqb, ne_eqb}
+use borrow.Author.Tests.{le-leb, lt-leb, lt-ltb, le-ltb}
 use lib.Dec.{T, leb, ltb, eqb, leb→le}
 use lib.ListN.{length, get_or, set, get_or-eq_default}
 use lib.Seq.{get_or-set_same, get_or-set_other}
 use Rattle.hume.specs.Tests.{pick, every}
-use Rattle.hume.specs.Image.{Program, program, byte, half, full, version, ruleset_at, code_at, order_at}
-use Rattle.hume.specs.Refusals.{counts_ok, ruleset_ok, unless, image_refusal, length_ok, version_ok, code_ok}
+use Rattle.hume.specs.Image.{Program, program, byte, half, full, ruleset_at, code_at, order_at}
+use Rattle.hume.specs.Refusals.{counts_ok, ruleset_ok}
 use Rattle.gate.specs.Parts.{ranges_ok, count_ok, rules_ok}
 use Rattle.laws.proofs.Tests.{and_left, and_right, of_true, every_at}
 use Rattle.gate.proofs.Tests.{and_yes, and_no, regroup, found_place, lost_place}
@@ -168,31 +168,3 @@ entry_more l k v f h old e =
     below_more (λ (j : ℕ). get_or (set l (k + 1) v) j 0 ≡ f j) (k + 1)
     (λ j b. get_or-set_other l (k + 1) j v 0 (λ q. omega arith) ∙ old j b)
     (get_or-set_same l (k + 1) v 0 h ∙ e)
-
--- ---- the first number that applies
-
-module _ (m : List ℕ) where
-  pub version_out : (x : ℕ) → x ≡ byte m 4 → (x ≡ 1 → ⊥) → version_ok m ≡ false
-  unfolding version_ok version
-  version_out x e n = ne_eqb (byte m 4) 1 (λ q. n (e ∙ q))
-
-  pub version_in : (x : ℕ) → x ≡ byte m 4 → x ≡ 1 → version_ok m ≡ true
-  unfolding version_ok version
-  version_in x e q = eq-eqb (byte m 4) 1 (sym e ∙ q)
-
-  pub refused_length : length_ok m ≡ false → 1 ≡ image_refusal m
-  unfolding image_refusal unless
-  refused_length e = rw e refl
-
-  pub refused_version : length_ok m ≡ true → version_ok m ≡ false → 2 ≡ image_refusal m
-  unfolding image_refusal unless
-  refused_version e v = rw (e, v) refl
-
-  pub refused_counts : length_ok m ≡ true → version_ok m ≡ true → counts_ok m (program m) ≡ false → 3 ≡ image_refusal m
-  unfolding image_refusal unless
-  refused_counts e v k = rw (e, v, k) refl
-
-  pub refused_code : length_ok m ≡ true → version_ok m ≡ true → counts_ok m (program m) ≡ true
-      → unless (code_ok (program m)) 4 0 ≡ image_refusal m
-  unfolding image_refusal unless
-  refused_code e v k = rw (e, v, k) refl

@@ -7,7 +7,6 @@ use native.Mathlib.Omega.{arith}
 use lib.Dec.{T}
 use lib.ListN.{length, get_or}
 use Rattle.hume.specs.Tests.{pick, every, all}
-use Rattle.hume.specs.Refusals.{unless}
 use Rattle.gate.specs.Parts.{Read}
 use Rattle.laws.proofs.Tests.{to_true, of_true, to_false, every_at, every_of, all_at, all_of}
 
@@ -76,16 +75,3 @@ pub lost_place : (b : Bool) (x r : ℕ) → r ≡ pick b x 0 → 0 < x → r ≡
 unfolding pick
 lost_place true x r e k z = absurd (omega arith)
 lost_place false x r e k z = refl
-
--- ---- the first number that applies
-
-pub unless_yes : (b : Bool) (x y : ℕ) → b ≡ true → y ≡ unless b x y
-unfolding unless
-unless_yes b x y e = ap (λ (t : Bool). unless t x y) (sym e)
-
-pub unless_no : (b : Bool) (x y : ℕ) → b ≡ false → x ≡ unless b x y
-unfolding unless
-unless_no b x y e = ap (λ (t : Bool). unless t x y) (sym e)
-
-pub unless_both : (n : ℕ) {b c : Bool} {x y : ℕ} → b ≡ c → x ≡ y → unless b n x ≡ unless c n y
-unless_both n e f = λ j. unless (e j) n (f j)

@@ -4,37 +4,38 @@ use mathlib.Core.List.{List}
 use Prim.Native.Nat.{ℕ, zero, suc, ◌<◌}
 use native.Mathlib.Omega.{arith}
 use lib.Seq.{ext_get_or}
-use Rattle.gate.specs.declared.image.Verdict.{Verdict}
-use Rattle.gate.specs.declared.image.Verdict.TheVariants.{Accepted, Length, Version, Counts, Code, Card, Limits, Wires, Order}
+use Rattle.std.specs.Prelude.{⊤, Result, Ok, Err}
+use Rattle.gate.specs.declared.refusals.Refusal.{Refusal}
+use Rattle.gate.specs.declared.refusals.Refusal.TheVariants.{Length, Version, Counts, Code, Card, Limits, Wires, Order}
 use Rattle.gate.specs.Verdicts.{number}
 use Rattle.gate.specs.Parts.{LaidOut}
 
 -- the verdict of a number
-verdict_of : ℕ → Verdict
-verdict_of zero = Accepted
-verdict_of (suc zero) = Length
-verdict_of (suc (suc zero)) = Version
-verdict_of (suc (suc (suc zero))) = Counts
-verdict_of (suc (suc (suc (suc zero)))) = Code
-verdict_of (suc (suc (suc (suc (suc zero))))) = Card
-verdict_of (suc (suc (suc (suc (suc (suc zero)))))) = Limits
-verdict_of (suc (suc (suc (suc (suc (suc (suc zero))))))) = Wires
-verdict_of (suc (suc (suc (suc (suc (suc (suc (suc n)))))))) = Order
+verdict_of : ℕ → Result ⊤ Refusal
+verdict_of zero = Ok tt
+verdict_of (suc zero) = Err Length
+verdict_of (suc (suc zero)) = Err Version
+verdict_of (suc (suc (suc zero))) = Err Counts
+verdict_of (suc (suc (suc (suc zero)))) = Err Code
+verdict_of (suc (suc (suc (suc (suc zero))))) = Err Card
+verdict_of (suc (suc (suc (suc (suc (suc zero)))))) = Err Limits
+verdict_of (suc (suc (suc (suc (suc (suc (suc zero))))))) = Err Wires
+verdict_of (suc (suc (suc (suc (suc (suc (suc (suc n)))))))) = Err Order
 
-back : (v : Verdict) → verdict_of (number v) ≡ v
-unfolding verdict_of number
-back Accepted = refl
-back Length = refl
-back Version = refl
-back Counts = refl
-back Code = refl
-back Card = refl
-back Limits = refl
-back Wires = refl
-back Order = refl
+back : (v : Result ⊤ Refusal) → verdict_of (number v) ≡ v
+unfolding verdict_of
+back (Ok _) = refl
+back (Err Length) = refl
+back (Err Version) = refl
+back (Err Counts) = refl
+back (Err Code) = refl
+back (Err Card) = refl
+back (Err Limits) = refl
+back (Err Wires) = refl
+back (Err Order) = refl
 
 -- Two verdicts with one number are the same.
-pub one_verdict : (u v : Verdict) → number u ≡ number v → u ≡ v
+pub one_verdict : (u v : Result ⊤ Refusal) → number u ≡ number v → u ≡ v
 one_verdict u v e = sym (back u) ∙ ap verdict_of e ∙ back v
 
 -- Two layouts of one image are the same.

@@ -4,20 +4,6 @@ ghost use Rattle.hume.specs.Image.{program, byte, half, full};
 ghost use Rattle.hume.specs.Refusals.{length_ok, counts_ok};
 ghost use Rattle.gate.specs.Parts.{Read, ranges_ok, counts_end};
 
-// The refusals by their numbers, from 0.
-#[derive(Clone, Copy)]
-pub enum Verdict {
-    Accepted,
-    Length,
-    Version,
-    Counts,
-    Code,
-    Card,
-    Limits,
-    Wires,
-    Order,
-}
-
 // Where ruleset k begins in the image, and its part in the rule order, to one past the 32nd.
 #[derive(Drop)]
 pub struct Layout {

@@ -5,15 +5,17 @@
 mod code;
 pub mod image;
 mod order;
+mod refusals;
 mod wires;
 
 ghost use Rattle.std.specs.Prelude.{◌≡◌};
-ghost use Rattle.hume.specs.Refusals.{unless, image_refusal, card_ok, limits_ok};
+ghost use Rattle.hume.specs.Refusals.{image_refusal, card_ok, limits_ok};
 ghost use Rattle.hume.specs.Call.{refusal, lent_refusal};
 ghost use Rattle.gate.specs.Verdicts.{number, given};
 ghost use Rattle.gate.specs.Parts.{LaidOut};
 
-pub use image::{Layout, Verdict};
+pub use image::Layout;
+pub use refusals::Refusal;
 
 // "Card: 40 numbers of 32 bits, one per opcode, each 1..65535."
 pub fn card_ok(card: &[u32]) -> bool
@@ -42,13 +44,6 @@ pub fn limits_ok(s: u32, h: u32, stack: usize, heap: usize) -> bool
     s <= 4096 && (h <= 16384 && ((s as usize) <= stack && (h as usize) <= heap))
 }
 
-// What comes later, unless the test fails.
-fn unless(ok: bool, v: Verdict, later: Verdict) -> Verdict
-    ensures { number result ≡ unless ok (number v) (number later) }
-{
-    if ok { later } else { v }
-}
-
 // One pass, also past the last ruleset: what stands there is no matter, and is bounded.
 pub fn layout(image: &[u8]) -> Layout
     ensures { LaidOut image.now result.at result.order }
@@ -67,23 +62,27 @@ pub fn layout(image: &[u8]) -> Layout
 }
 
 // 1 to 4.
-pub fn image_verdict(image: &[u8]) -> Verdict
+#[tactic(auto, unfolding(hume::specs::Refusals::image_refusal, hume::specs::Refusals::version_ok, hume::specs::Image::version, hume::specs::Refusals::unless))]
+pub fn image_verdict(image: &[u8]) -> Result<(), Refusal>
     ensures { number result ≡ image_refusal image.now }
 {
     if !image::length_ok(image) {
-        return Verdict::Length;
+        return Err(Refusal::Length);
     }
     if image::byte_at(image, 4) != 1 {
-        return Verdict::Version;
+        return Err(Refusal::Version);
     }
     if !image::counts_ok(image) {
-        return Verdict::Counts;
+        return Err(Refusal::Counts);
     }
-    let coded = code::code_ok(image);
-    unless(coded, Verdict::Code, Verdict::Accepted)
+    if !code::code_ok(image) {
+        return Err(Refusal::Code);
+    }
+    Ok(())
 }
 
 // 5 to 8, for an accepted image.
+#[tactic(auto, unfolding(hume::specs::Call::lent_refusal, hume::specs::Refusals::unless))]
 fn lent_verdict(
     image: &[u8],
     card: &[u32],
@@ -93,20 +92,27 @@ fn lent_verdict(
     heap: &[u32],
     wires: &[u32],
     order: &[u32],
-) -> Verdict
+) -> Result<(), Refusal>
     requires { image_refusal image.now ≡ 0 }
     ensures { number result ≡ lent_refusal (given image.now card.now 0 s h stack.now
         heap.now wires.now order.now) }
 {
-    let priced = card_ok(card);
-    let fits = limits_ok(s, h, stack.len(), heap.len());
-    let wired = wires::wires_ok(image, wires);
-    let ordered = order::order_ok(image, order);
-    let last = unless(ordered, Verdict::Order, Verdict::Accepted);
-    let later = unless(fits, Verdict::Limits, unless(wired, Verdict::Wires, last));
-    unless(priced, Verdict::Card, later)
+    if !card_ok(card) {
+        return Err(Refusal::Card);
+    }
+    if !limits_ok(s, h, stack.len(), heap.len()) {
+        return Err(Refusal::Limits);
+    }
+    if !wires::wires_ok(image, wires) {
+        return Err(Refusal::Wires);
+    }
+    if !order::order_ok(image, order) {
+        return Err(Refusal::Order);
+    }
+    Ok(())
 }
 
+#[tactic(auto, unfolding(hume::specs::Call::refusal, hume::specs::Call::first_of))]
 pub fn verdict(
     image: &[u8],
     card: &[u32],
@@ -117,14 +123,10 @@ pub fn verdict(
     heap: &[u32],
     wires: &[u32],
     order: &[u32],
-) -> Verdict
+) -> Result<(), Refusal>
     ensures { number result ≡ refusal (given image.now card.now time s h stack.now
         heap.now wires.now order.now) }
 {
-    let v = image_verdict(image);
-    if let Verdict::Accepted = v {
-        lent_verdict(image, card, s, h, stack, heap, wires, order)
-    } else {
-        v
-    }
+    image_verdict(image)?;
+    lent_verdict(image, card, s, h, stack, heap, wires, order)
 }

@@ -2,7 +2,7 @@
 // says what they mean, and makes the numbers to compare with.
 #![tactic(auto)]
 
-use gate::Verdict;
+use gate::Refusal;
 use std::io;
 use std::io::Read;
 
@@ -102,17 +102,10 @@ fn front(image: &[u8], n: u32) -> &[u8] {
     }
 }
 
-fn digit_of(v: Verdict) -> u8 {
+fn digit_of(v: Result<(), Refusal>) -> u8 {
     match v {
-        Verdict::Accepted => b'0',
-        Verdict::Length => b'1',
-        Verdict::Version => b'2',
-        Verdict::Counts => b'3',
-        Verdict::Code => b'4',
-        Verdict::Card => b'5',
-        Verdict::Limits => b'6',
-        Verdict::Wires => b'7',
-        Verdict::Order => b'8',
+        Ok(()) => b'0',
+        Err(r) => b'0' + u32::from(r) as u8,
     }
 }
 

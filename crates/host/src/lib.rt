@@ -8,24 +8,19 @@ ghost use Rattle.engine.specs.Reports.{ending_number, detail_number, reported};
 ghost use Rattle.host.specs.Told.{recorded_by, recorded};
 
 use engine::{Ending, Report, run};
-use gate::Verdict;
+use gate::Refusal;
 
-pub fn number_of(v: Verdict) -> u32
+// Document 01's number of a refusal, 0 for none.
+pub fn number_of(v: Result<(), Refusal>) -> u32
     ensures { result ≡ number v }
 {
     match v {
-        Verdict::Accepted => 0,
-        Verdict::Length => 1,
-        Verdict::Version => 2,
-        Verdict::Counts => 3,
-        Verdict::Code => 4,
-        Verdict::Card => 5,
-        Verdict::Limits => 6,
-        Verdict::Wires => 7,
-        Verdict::Order => 8,
+        Ok(()) => 0,
+        Err(r) => u32::from(r),
     }
 }
 
+#[tactic(auto, unfolding(engine::specs::Reports::ending_number))]
 fn ending_of(e: Ending) -> u32
     ensures { result ≡ ending_number e }
 {
@@ -41,18 +36,13 @@ fn ending_of(e: Ending) -> u32
     }
 }
 
+#[tactic(auto, unfolding(engine::specs::Reports::detail_number))]
 fn detail_of(e: Ending) -> u32
     ensures { result ≡ detail_number e }
 {
     match e {
-        Ending::Finished => 0,
-        Ending::Blocked(i) => i,
-        Ending::Fault(n) => n,
-        Ending::NoRule => 0,
-        Ending::Unhandled(n) => n,
-        Ending::Time => 0,
-        Ending::Stack => 0,
-        Ending::Heap => 0,
+        Ending::Blocked(n) | Ending::Fault(n) | Ending::Unhandled(n) => n,
+        Ending::Finished | Ending::NoRule | Ending::Time | Ending::Stack | Ending::Heap => 0,
     }
 }
 
@@ -70,21 +60,18 @@ fn tell(figures: &mut [u32], r: Report) -> u32
     ensures value { result ≡ number r.verdict }
     ensures figures_after { figures.new ≡ recorded_by (number r.verdict) (reported r) figures.old }
 {
-    let v = r.verdict;
-    let e = r.ending;
-    let n = number_of(v);
-    if n != 0 {
-        return n;
+    if let Err(refusal) = r.verdict {
+        return u32::from(refusal);
     }
-    put(figures, 0, ending_of(e));
-    put(figures, 1, detail_of(e));
+    put(figures, 0, ending_of(r.ending));
+    put(figures, 1, detail_of(r.ending));
     put(figures, 2, r.pc);
     put(figures, 3, r.steps);
     put(figures, 4, r.time);
     put(figures, 5, r.peak);
     put(figures, 6, r.depth);
     put(figures, 7, r.heap);
-    n
+    0
 }
 
 // One call, as `run` of the crate engine: the refusal's number is returned, 0 for none, and the eight figures go to `figures`.
