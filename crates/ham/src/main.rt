@@ -5,6 +5,7 @@
 ghost use Rattle.std.specs.Prelude.{◌≤◌, length};
 ghost use Rattle.ham.specs.Read.{Filled, Collected, Replied};
 
+use sheet::INPUT_MOST;
 use std::io::Read;
 
 // Why reading came to an end: all that was asked for is there, the input is over, or a read failed.
@@ -59,7 +60,7 @@ fn fill(stdin: &mut impl Read, part: &mut [u8]) -> Got
 
 // Reads what the program needs and no byte more: each turn asks for what the bytes so far say is missing.
 fn collect(stdin: &mut impl Read, input: &mut [u8]) -> Got
-    requires { 36159 ≤ length input.old }
+    requires { INPUT_MOST ≤ length input.old }
     ensures { Collected input.new result }
 {
     let mut count = 0;
@@ -84,7 +85,7 @@ fn collect(stdin: &mut impl Read, input: &mut [u8]) -> Got
 
 // An input that can't be read ends there: what is printed is then a refusal.
 fn respond(stdin: &mut impl Read, input: &mut [u8], line: &mut [u8; 88]) -> Reply
-    requires { 36159 ≤ length input.old }
+    requires { INPUT_MOST ≤ length input.old }
     ensures { Replied input.new line.old line.new result }
 {
     let got = collect(stdin, input);
@@ -94,7 +95,7 @@ fn respond(stdin: &mut impl Read, input: &mut [u8], line: &mut [u8; 88]) -> Repl
 
 // What went wrong outside the program is said on standard error. Where that fails too, nothing can be said.
 fn main(rt: HostRuntime) {
-    let mut input = [0u8; 36159];
+    let mut input = [0u8; INPUT_MOST];
     let mut line = [0u8; 88];
     let reply = respond(&mut rt.stdin(), &mut input, &mut line);
     let written = rt.write_all(&line[reply.start..]).is_ok();

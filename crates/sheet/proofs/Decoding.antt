@@ -1,13 +1,13 @@
 -- Lists that are filled from the front: a sheet's words, and the first order.
 use mathlib.Core.Path.{◌≡◌, refl, sym, ap, ◌∙◌}
-use mathlib.Core.List.{List, [], ◌∷◌, ◌++◌, append_assoc}
-use Prim.Native.Nat.{ℕ, zero, suc, ◌+◌, ◌≤◌, ◌<◌}
+use mathlib.Core.List.{List, [], ◌∷◌, ◌++◌}
+use Prim.Native.Nat.{ℕ, zero, suc, ◌+◌, ◌*◌, ◌≤◌, ◌<◌}
 use native.Mathlib.Numerals.{add-one}
 use native.Mathlib.Omega.{arith}
-use lib.ListN.{length, get_or, take, drop, length-drop}
+use lib.ListN.{length, get_or, take, drop, replicate, length-drop, length-append, length-replicate}
 use Rattle.std.proofs.lemmas.List.{length-take}
 use borrow.Rule.Slice.PartMut.{post_of, put_mid}
-use lib.Seq.{length-take-le, drop-cons, set_at, take_at, take-append-add}
+use lib.Seq.{length-take-le, take_at, take-append-add}
 use Rattle.hume.specs.Image.{Program, program, byte}
 use Rattle.hume.specs.Refusals.{image_refusal}
 use Rattle.hume.specs.Sheet.{sheet_word, sheet_words, counting, first_order}
@@ -65,6 +65,14 @@ module _ (image : List ℕ) (good : image_refusal image ≡ 0) where
       let p = image_passed image good in
       accepted image (program image) p.counts p.code
 
+  pub inputs_most : byte image 5 ≤ 8
+  unfolding program
+  inputs_most = fits.inputs
+
+  pub outputs_most : byte image 6 ≤ 8
+  unfolding program
+  outputs_most = fits.outputs
+
   pub rulesets_most : byte image 7 ≤ 32
   unfolding program
   rulesets_most = fits.rulesets
@@ -87,3 +95,25 @@ order_part order last done w n h e l =
     let long : length (take w (drop done order)) ≡ n = omega (arith, length-take {A = ℕ}, length-drop {A = ℕ}) in
     ap (λ (t : List ℕ). take (done + n) (put_mid done w order t)) (l ∙ ap (λ (k : ℕ). counting 0 k) long)
     ∙ take_both (take done order) (counting 0 n) (post_of done w order) done n (length-take-le done order (omega (arith, h))) (counting_length 0 n)
+
+-- the wires: what the sheet has in front, and in what is lent behind it nothing
+module _ (image sheet wires inputs outputs : List ℕ) (i o w : ℕ) (ei : i ≡ byte image 5) (eo : o ≡ byte image 6) (ew : w ≡ 65 * o)
+    (long : 65 * i + 65 * o ≤ length wires) where
+  pub wires_given : inputs ≡ sheet_words sheet 45 (length (take (65 * i) wires))
+      → outputs ≡ replicate (length (take w (drop (65 * i) (inputs ++ drop (65 * i) wires)))) 0
+      → take (65 * i + 65 * o) (put_mid (65 * i) w (inputs ++ drop (65 * i) wires) outputs)
+      ≡ sheet_words sheet 45 (65 * (program image).inputs) ++ replicate (65 * (program image).outputs) 0
+  unfolding program
+  wires_given ein eout =
+      let lent : length (take (65 * i) wires) ≡ 65 * i = length-take-le (65 * i) wires (omega (arith, long)) in
+      let ins : inputs ≡ sheet_words sheet 45 (65 * i) = ein ∙ ap (λ (n : ℕ). sheet_words sheet 45 n) lent in
+      let n : length inputs ≡ 65 * i = ap length ins ∙ words_length sheet 45 (65 * i) in
+      let rest : length (take w (drop (65 * i) (inputs ++ drop (65 * i) wires))) ≡ 65 * o =
+      omega (arith, length-take {A = ℕ}, length-drop {A = ℕ}, length-append {A = ℕ}, n, long, ew) in
+      let outs : outputs ≡ replicate (65 * o) 0 = eout ∙ ap (λ (k : ℕ). replicate k 0) rest in
+      let both = inputs ++ drop (65 * i) wires in
+      ap (λ (t : List ℕ). take (65 * i + 65 * o) (t ++ (outputs ++ post_of (65 * i) w both))) (take_at inputs (drop (65 * i) wires) (65 * i) n)
+      ∙ take_both inputs outputs (post_of (65 * i) w both) (65 * i) (65 * o) n (ap length outs ∙ length-replicate (65 * o) 0)
+      ∙ (λ j. ins j ++ outs j)
+      ∙ ap (λ (k : ℕ). sheet_words sheet 45 (65 * k) ++ replicate (65 * o) 0) ei
+      ∙ ap (λ (k : ℕ). sheet_words sheet 45 (65 * byte image 5) ++ replicate (65 * k) 0) eo
