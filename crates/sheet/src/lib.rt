@@ -5,20 +5,16 @@ mod decode;
 mod line;
 mod refusals;
 
-ghost use Rattle.std.specs.Prelude.{◌≡◌, true, false, take, MatchResult};
+ghost use Rattle.std.specs.Prelude.{◌≡◌, true, false, MatchResult};
 ghost use Rattle.hume.specs.Image.{program};
-ghost use Rattle.hume.specs.Refusals.{image_refusal};
-ghost use Rattle.hume.specs.Call.{answer};
-ghost use Rattle.hume.specs.Sheet.{printed, printed_by, parts_refusal, image_readable, image_read, sheet_read, sheet_ok, sheet_length, sheet_given};
+ghost use Rattle.hume.specs.Sheet.{printed, printed_by, parts_refusal, image_readable, image_read, sheet_read, sheet_ok, sheet_length};
 ghost use Rattle.gate.specs.Parts.{Read};
-ghost use Rattle.gate.specs.Verdicts.{number};
-ghost use Rattle.engine.specs.Reports.{reported};
 ghost use Rattle.sheet.specs.Lines.{Text};
 ghost use Rattle.sheet.specs.Needed.{needed as neededOf, sheet_needed};
 ghost use Rattle.sheet.specs.Said.{said};
 
-use decode::{first_order, first_wires, word, words};
-use engine::{Report, run};
+use decode::Asked;
+use engine::Report;
 use gate::image::{byte_at, full_at};
 use gate::{Refusal, image_verdict};
 use line::{figures_line, refused_line};
@@ -110,33 +106,6 @@ fn parts(input: &[u8]) -> Result<(&[u8], &[u8]), Refusal>
     input.split_at_checked(n).ok_or(Refusal::Length)
 }
 
-// "Outputs start empty, order 0, 1, 2...": the call that the sheet asks for.
-fn run_sheet(image: &[u8], sheet: &[u8]) -> Report
-    requires { image_refusal image.now ≡ 0 }
-    ensures verdict { number result.verdict ≡ (answer (sheet_given image.now sheet.now)).refusal }
-    ensures figures { reported result ≡ (answer (sheet_given image.now sheet.now)).figures }
-{
-    let mut card = [0u32; 40];
-    let mut stack = [0u32; 4096];
-    let mut heap = [0u32; 16384];
-    let mut wires = [0u32; 1040];
-    let mut order = [0u32; 512];
-    words(sheet, 5, &mut card);
-    let wired = first_wires(image, sheet, &mut wires);
-    let rules = first_order(image, &mut order);
-    run(
-        image,
-        &card,
-        word(sheet, 2),
-        word(sheet, 3),
-        word(sheet, 4),
-        &mut stack,
-        &mut heap,
-        &mut wires[..wired],
-        &mut order[..rules],
-    )
-}
-
 // The run that an image and a sheet ask for, or what turns them away.
 #[tactic(auto, unfolding(hume::specs::Sheet::parts_refusal, hume::specs::Sheet::sheet_refusal, hume::specs::Sheet::printed_by, hume::specs::Call::first_of, hume::specs::Refusals::unless))]
 fn run_parts(image: &[u8], sheet: &[u8]) -> Result<Report, TurnedAway>
@@ -146,7 +115,7 @@ fn run_parts(image: &[u8], sheet: &[u8]) -> Result<Report, TurnedAway>
     if !sheet_ok(image, sheet) {
         return Err(TurnedAway::Sheet);
     }
-    let report = run_sheet(image, sheet);
+    let report = Asked { image, sheet }.run();
     report.verdict?;
     Ok(report)
 }

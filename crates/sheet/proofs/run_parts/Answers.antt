@@ -14,11 +14,11 @@ returns-in_err-report c =
     let ok : sheet_ok (program c.args.image.now) c.args.sheet.now ≡ true = search rules in
     let line : said c.from_residual-in_err-report.result ≡ refused_line (number_of c.in_err-report.field-0.0) = search rules in
     line
-    ∙ call_refused _ _ good ok _ (sym (ap number c.in_err-report.was) ∙ c.run_sheet-report.ensures.verdict)
+    ∙ call_refused _ _ good ok _ (sym (ap number c.in_err-report.was) ∙ c.run-report.ensures.verdict)
     (refusal_some c.in_err-report.field-0.0)
 
 pub returns : goal.returns
 returns c =
     let good : image_refusal c.args.image.now ≡ 0 = search rules in
     let ok : sheet_ok (program c.args.image.now) c.args.sheet.now ≡ true = search rules in
-    call_figures _ _ good ok _ (sym (ap number c.in_ok-report.was) ∙ c.run_sheet-report.ensures.verdict) c.run_sheet-report.ensures.figures
+    call_figures _ _ good ok _ (sym (ap number c.in_ok-report.was) ∙ c.run-report.ensures.verdict) c.run-report.ensures.figures

@@ -1,5 +1,5 @@
 use Rattle.sheet.proofs.Giving.{sheet_given_lem, told_refusal, told_figures}
-use Rattle.sheet.proofs.run_sheet.Goals as goal
+use Rattle.sheet.proofs.decode.Asked.run.Goals as goal
 
 pub returns : goal.returns
 returns c =

@@ -4,7 +4,7 @@ use Rattle.hume.specs.Image.{program, byte, ruleset_at}
 use Rattle.hume.specs.Sheet.{counting, first_order}
 use Rattle.gate.proofs.Rulesets.{ruleset_next, count_is}
 use Rattle.sheet.proofs.Decoding.{order_next, order_part, rulesets_most, rules_most}
-use Rattle.sheet.proofs.decode.first_order.Goals as goal
+use Rattle.sheet.proofs.decode.Asked.first_order.Goals as goal
 
 pub loop-r-init : goal.loop-r-init
 unfolding ruleset_at first_order
@@ -14,22 +14,22 @@ pub slice_bounds-count_up-end : goal.slice_bounds-count_up-end
 slice_bounds-count_up-end c =
     let i = c.loop-r.invariant in
     let n = count_is _ _ _ _ i.begins c.byte_at-n.ensures.is in
-    let few = rulesets_most _ c.requires.image_value in
-    let most = rules_most _ c.requires.image_value c.loop-r._r (omega arith) in
+    let few = rulesets_most _ c.args.self.now.accepted in
+    let most = rules_most _ c.args.self.now.accepted c.loop-r._r (omega arith) in
     omega (arith, n, most, few)
 
 pub count_up-requires : goal.count_up-requires
 count_up-requires c =
     let n = count_is _ _ _ _ c.loop-r.invariant.begins c.byte_at-n.ensures.is in
-    let most = rules_most _ c.requires.image_value c.loop-r._r (omega arith) in
+    let most = rules_most _ c.args.self.now.accepted c.loop-r._r (omega arith) in
     omega (arith, n, most, length-take {A = ℕ})
 
 pub loop-r-preserved : goal.loop-r-preserved
 loop-r-preserved c =
     let i = c.loop-r.invariant in
     let n = count_is _ _ _ _ i.begins c.byte_at-n.ensures.is in
-    let few = rulesets_most _ c.requires.image_value in
-    let most = rules_most _ c.requires.image_value c.loop-r._r (omega arith) in
+    let few = rulesets_most _ c.args.self.now.accepted in
+    let most = rules_most _ c.args.self.now.accepted c.loop-r._r (omega arith) in
     record {
       begins = ruleset_next _ _ _ _ i.begins c.byte_at-n.ensures.is;
       near = omega (arith, n, most);
@@ -44,6 +44,6 @@ pub returns : goal.returns
 unfolding program
 returns c =
     let i = c.loop-r.invariant in
-    let few = rulesets_most _ c.requires.image_value in
-    let e : c.loop-r._r ≡ byte c.args.image.now 7 = omega arith in
-    (omega (arith, few), i.counted ∙ ap (λ (k : ℕ). first_order (program c.args.image.now) k) e)
+    let few = rulesets_most _ c.args.self.now.accepted in
+    let e : c.loop-r._r ≡ byte c.args.self.now.image.now 7 = omega arith in
+    (omega (arith, few), i.counted ∙ ap (λ (k : ℕ). first_order (program c.args.self.now.image.now) k) e)
