@@ -1,5 +1,5 @@
 -- What a call returns, as document 01's numbers.
-use Rattle.std.specs.Prelude.{ℕ}
+use Rattle.std.specs.Prelude.{List, [], ◌∷◌, ℕ}
 use Rattle.hume.specs.Call.{Figures, Answer}
 use Rattle.gate.specs.Verdicts.{number}
 use Rattle.engine.specs.Turns.{Buffers}
@@ -42,6 +42,11 @@ reported r =
       depth = r.depth;
       heap = r.heap;
     }
+
+-- "ending, detail, pc, steps charged, time, peak depth (0 at the start), depth, heap"
+abbrev pub eight : Figures → List ℕ
+eight f =
+    f.ending ∷ f.detail ∷ f.pc ∷ f.steps ∷ f.time ∷ f.peak ∷ f.depth ∷ f.heap ∷ []
 
 -- the report and what is in the lent buffers, as one answer
 unfoldable pub told : Report → Buffers → Answer

@@ -20,7 +20,7 @@ ghost use Rattle.std.specs.Prelude.{◌≡◌, ℕ, ◌-◌, ◌^◌, ◌≤◌,
 ghost use Rattle.hume.specs.Call.{answer, refusal as refusalOf};
 ghost use Rattle.gate.specs.Verdicts.{given};
 ghost use Rattle.engine.specs.Turns.{buffers};
-ghost use Rattle.engine.specs.Reports.{told};
+ghost use Rattle.engine.specs.Reports.{ending_number, detail_number, reported, eight, told};
 ghost use Rattle.engine.specs.Endings.{refusal, ending, beginning};
 
 use gate::{Refusal, layout, verdict};
@@ -43,6 +43,36 @@ pub enum Ending {
     Heap,
 }
 
+impl Ending {
+    // Document 01's number of the ending.
+    #[tactic(auto, unfolding(crate::specs::Reports::ending_number))]
+    pub fn number(self) -> u32
+        ensures { result ≡ ending_number self }
+    {
+        match self {
+            Ending::Finished => 0,
+            Ending::Blocked(_) => 1,
+            Ending::Fault(_) => 2,
+            Ending::NoRule => 3,
+            Ending::Unhandled(_) => 4,
+            Ending::Time => 5,
+            Ending::Stack => 6,
+            Ending::Heap => 7,
+        }
+    }
+
+    // "The detail is the bracketed number, else 0."
+    #[tactic(auto, unfolding(crate::specs::Reports::detail_number))]
+    pub fn detail(self) -> u32
+        ensures { result ≡ detail_number self }
+    {
+        match self {
+            Ending::Blocked(n) | Ending::Fault(n) | Ending::Unhandled(n) => n,
+            Ending::Finished | Ending::NoRule | Ending::Time | Ending::Stack | Ending::Heap => 0,
+        }
+    }
+}
+
 // What a call returns: the refusal, or the ending and "pc, steps charged, time, peak depth (0 at the start), depth, heap".
 #[derive(Clone, Copy)]
 pub struct Report {
@@ -54,6 +84,25 @@ pub struct Report {
     pub peak: u32,
     pub depth: u32,
     pub heap: u32,
+}
+
+impl Report {
+    // The eight figures, in document 01's order.
+    #[tactic(auto, unfolding(crate::specs::Reports::reported))]
+    pub fn figures(&self) -> [u32; 8]
+        ensures { result ≡ eight (reported self.now) }
+    {
+        [
+            self.ending.number(),
+            self.ending.detail(),
+            self.pc,
+            self.steps,
+            self.time,
+            self.peak,
+            self.depth,
+            self.heap,
+        ]
+    }
 }
 
 // "A call turned away returns the number with all figures 0": they stand beside the refusal, and not in an `Ok` in its

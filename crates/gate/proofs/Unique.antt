@@ -38,6 +38,10 @@ back (Err Order) = refl
 pub one_verdict : (u v : Result ⊤ Refusal) → number u ≡ number v → u ≡ v
 one_verdict u v e = sym (back u) ∙ ap verdict_of e ∙ back v
 
+-- A refusal's number is not the 0 of an accepted call.
+pub refusal_some : (r : Refusal) → number (Err r) ≡ 0 → ⊥
+refusal_some r e = cc (one_verdict (Err r) (Ok tt) e)
+
 -- Two layouts of one image are the same.
 pub record SameLayout (a o b q : List ℕ) : Type 0 where
   pub at : a ≡ b

@@ -1,7 +1,7 @@
 -- The line that is written, for all of standard input. No contract can say that the bytes that `read` put into the buffer are the
 -- input's first; where they are, the line is the definition's.
 use mathlib.Core.Path.{◌≡◌, sym, ap, ◌∙◌, subst}
-use mathlib.Core.Bool.{true, false}
+use Rattle.std.specs.Prelude.{◌≢◌}
 use mathlib.Core.List.{List, ◌++◌}
 use Prim.Native.Nat.{ℕ, ◌≤◌}
 use native.Mathlib.Omega.{arith}
@@ -11,11 +11,12 @@ use Rattle.hume.specs.Sheet.{printed}
 use Rattle.sheet.specs.Needed.{Refused}
 use Rattle.sheet.proofs.Enough.{printed_enough, printed_cut}
 use Rattle.ham.specs.Read.{Replied}
+use Rattle.ham.specs.declared.End.TheVariants.{Full}
 use Rattle.ham.specs.declared.Reply.{Reply}
 
 module _ (input before line : List ℕ) (r : Reply) (p : Replied input before line r) where
   -- a read that fails, or an input that ends too early, never gives figures
-  pub cut_refused : r.got.whole ≡ false → Refused (drop r.start line)
+  pub cut_refused : r.got.end ≢ Full → Refused (drop r.start line)
   cut_refused e =
       let l = length-take-le r.got.count input p.read.within in
       subst Refused (sym p.text.is) (printed_cut (take r.got.count input) (omega (arith, l, p.read.cut e)))
@@ -23,7 +24,7 @@ module _ (input before line : List ℕ) (r : Reply) (p : Replied input before li
   -- `all` is standard input, of which the bytes in the buffer are the first
   module _ (all : List ℕ) (first : take r.got.count input ≡ take r.got.count all) where
     -- the program read all that it needs
-    pub whole_right : r.got.whole ≡ true → drop r.start line ≡ printed all
+    pub whole_right : r.got.end ≡ Full → drop r.start line ≡ printed all
     whole_right e =
         let n = r.got.count in
         let l = length-take-le n input p.read.within in

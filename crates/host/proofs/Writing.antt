@@ -1,27 +1,53 @@
 -- The figures in the order they are written.
-use mathlib.Core.Path.{◌≡◌, refl, ap}
-use mathlib.Core.List.{List}
-use Prim.Native.Nat.{ℕ, zero, suc}
-use lib.ListN.{set}
+use Rattle.std.proofs.Common.{◌≡◌, ℕ, zero, suc, ◌≤◌, ◌<◌, List, [], ◌∷◌, ◌++◌, true, false, length, take, drop, refl, sym, ap, ◌∙◌, arith}
+use Rattle.std.specs.Prelude.{⊤, Result, Ok, Err, is_ok}
+use Rattle.std.proofs.Math.ListN.{set}
+use Rattle.std.proofs.lemmas.List.Edits.{sets}
 use Rattle.hume.specs.Call.{Figures, Answer}
-use Rattle.engine.specs.Reports.{ending_number, detail_number, reported, told}
-use Rattle.engine.specs.declared.Report.{Report}
+use Rattle.gate.specs.declared.refusals.Refusal.{Refusal}
 use Rattle.gate.specs.Verdicts.{number}
+use Rattle.gate.proofs.Unique.{refusal_some}
+use Rattle.engine.specs.Reports.{reported, eight, told}
+use Rattle.engine.specs.declared.Report.{Report}
 use Rattle.engine.specs.Turns.{Buffers}
 use Rattle.host.specs.Told.{recorded_by, recorded}
 
-pub refused : (n : ℕ) (f : Figures) (l : List ℕ) → (n ≡ 0 → ⊥) → l ≡ recorded_by n f l
-unfolding recorded_by
-refused zero f l h = absurd (h refl)
-refused (suc n) f l h = refl
+-- nothing past the end
+sets_none : (xs : List ℕ) (i : ℕ) → sets [] i xs ≡ []
+sets_none [] i = refl
+sets_none (a ∷ xs) i = sets_none xs (suc i)
 
-pub chained : (r : Report) (l : List ℕ) {n e d : ℕ} {l1 l2 l3 l4 l5 l6 l7 l8 : List ℕ}
-    → n ≡ 0 → e ≡ ending_number r.ending → d ≡ detail_number r.ending
-    → l1 ≡ set l 0 e → l2 ≡ set l1 1 d → l3 ≡ set l2 2 r.pc → l4 ≡ set l3 3 r.steps
-    → l5 ≡ set l4 4 r.time → l6 ≡ set l5 5 r.peak → l7 ≡ set l6 6 r.depth → l8 ≡ set l7 7 r.heap
-    → l8 ≡ recorded_by n (reported r) l
-unfolding recorded_by reported
-chained r l n e d p1 p2 p3 p4 p5 p6 p7 p8 = rw (n, p8, p7, p6, p5, p4, p3, p2, p1, e, d)
+sets_behind : (x : ℕ) (l xs : List ℕ) (i : ℕ) → sets (x ∷ l) (suc i) xs ≡ x ∷ sets l i xs
+sets_behind x l [] i = refl
+sets_behind x l (a ∷ xs) i = sets_behind x (set l i a) xs (suc i)
+
+-- as many of xs as there is room for
+pub room : (l xs : List ℕ) (n : ℕ) → n ≤ length l → n ≤ length xs → (n < length l → length xs ≤ n)
+    → take n xs ++ drop n l ≡ sets l 0 xs
+room [] [] zero h k w = refl
+room [] (a ∷ xs) zero h k w = sym (sets_none (a ∷ xs) 0)
+room (x ∷ l) [] zero h k w = refl
+room (x ∷ l) (a ∷ xs) zero h k w = absurd (omega (arith, w (omega arith)))
+room [] xs (suc n) h k w = absurd (omega arith)
+room (x ∷ l) [] (suc n) h k w = absurd (omega arith)
+room (x ∷ l) (a ∷ xs) (suc n) h k w =
+    ap (λ (t : List ℕ). a ∷ t) (room l xs n (omega arith) (omega arith) (λ q. omega (arith, w (omega arith))))
+    ∙ sym (sets_behind a l xs 0)
+
+-- of an accepted call they are written, of a refused one not
+pub written : (v : Result ⊤ Refusal) (f : Figures) (l : List ℕ) → is_ok v ≡ true → sets l 0 (eight f) ≡ recorded_by (number v) f l
+unfolding recorded_by
+written (Ok _) f l e = refl
+written (Err r) f l e = cc
+
+pub kept : (v : Result ⊤ Refusal) (f : Figures) (l : List ℕ) → is_ok v ≡ false → l ≡ recorded_by (number v) f l
+unfolding recorded_by
+kept (Ok _) f l e = cc
+kept (Err r) f l e = by (number (Err r)) (refusal_some r)
+  where
+    by : (n : ℕ) → (n ≡ 0 → ⊥) → l ≡ recorded_by n f l
+    by zero h = absurd (h refl)
+    by (suc n) h = refl
 
 -- An answer's parts, from the answer.
 module _ (r : Report) (b : Buffers) (a : Answer) (e : told r b ≡ a) where

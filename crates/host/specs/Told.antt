@@ -1,12 +1,8 @@
 -- What a host is told: the refusal's number, and, of a call that is accepted, the eight figures.
-use Rattle.std.specs.Prelude.{List, [], ◌∷◌, ℕ, zero, suc}
+use Rattle.std.specs.Prelude.{List, ℕ, zero, suc}
 use Rattle.std.proofs.lemmas.List.Edits.{sets}
 use Rattle.hume.specs.Call.{Figures, Answer}
-
--- "ending, detail, pc, steps charged, time, peak depth (0 at the start), depth, heap"
-abbrev pub eight : Figures → List ℕ
-eight f =
-    f.ending ∷ f.detail ∷ f.pc ∷ f.steps ∷ f.time ∷ f.peak ∷ f.depth ∷ f.heap ∷ []
+use Rattle.engine.specs.Reports.{eight}
 
 -- the figures from the buffer's beginning on, as far as it goes; a refused call writes to no buffer
 unfoldable pub recorded_by : ℕ → Figures → List ℕ → List ℕ

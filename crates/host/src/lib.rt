@@ -1,13 +1,13 @@
 // The call for hosts in C and Rust: numbers and slices alone. The crate host_c exports it.
 #![tactic(auto)]
 
-ghost use Rattle.std.specs.Prelude.{◌≡◌, set};
+ghost use Rattle.std.specs.Prelude.{◌≡◌};
+ghost use Rattle.std.proofs.lemmas.List.Edits.{sets};
 ghost use Rattle.hume.specs.Call.{answer};
 ghost use Rattle.gate.specs.Verdicts.{number, given};
-ghost use Rattle.engine.specs.Reports.{ending_number, detail_number, reported};
-ghost use Rattle.host.specs.Told.{recorded_by, recorded};
+ghost use Rattle.host.specs.Told.{recorded};
 
-use engine::{Ending, Report, run};
+use engine::run;
 use gate::Refusal;
 
 // Document 01's number of a refusal, 0 for none.
@@ -20,58 +20,12 @@ pub fn number_of(v: Result<(), Refusal>) -> u32
     }
 }
 
-#[tactic(auto, unfolding(engine::specs::Reports::ending_number))]
-fn ending_of(e: Ending) -> u32
-    ensures { result ≡ ending_number e }
+// As many of the eight as there is room for, from the first on.
+fn record(figures: &mut [u32], eight: [u32; 8])
+    ensures { figures.new ≡ sets figures.old 0 eight }
 {
-    match e {
-        Ending::Finished => 0,
-        Ending::Blocked(_) => 1,
-        Ending::Fault(_) => 2,
-        Ending::NoRule => 3,
-        Ending::Unhandled(_) => 4,
-        Ending::Time => 5,
-        Ending::Stack => 6,
-        Ending::Heap => 7,
-    }
-}
-
-#[tactic(auto, unfolding(engine::specs::Reports::detail_number))]
-fn detail_of(e: Ending) -> u32
-    ensures { result ≡ detail_number e }
-{
-    match e {
-        Ending::Blocked(n) | Ending::Fault(n) | Ending::Unhandled(n) => n,
-        Ending::Finished | Ending::NoRule | Ending::Time | Ending::Stack | Ending::Heap => 0,
-    }
-}
-
-// x at i, or nothing past the end.
-fn put(figures: &mut [u32], i: usize, x: u32)
-    ensures { figures.new ≡ set figures.old i x }
-{
-    if i < figures.len() {
-        figures[i] = x;
-    }
-}
-
-#[tactic(auto, using(crate::proofs::Writing::refused))]
-fn tell(figures: &mut [u32], r: Report) -> u32
-    ensures value { result ≡ number r.verdict }
-    ensures figures_after { figures.new ≡ recorded_by (number r.verdict) (reported r) figures.old }
-{
-    if let Err(refusal) = r.verdict {
-        return u32::from(refusal);
-    }
-    put(figures, 0, ending_of(r.ending));
-    put(figures, 1, detail_of(r.ending));
-    put(figures, 2, r.pc);
-    put(figures, 3, r.steps);
-    put(figures, 4, r.time);
-    put(figures, 5, r.peak);
-    put(figures, 6, r.depth);
-    put(figures, 7, r.heap);
-    0
+    let n = figures.len().min(8);
+    figures[..n].copy_from_slice(&eight[..n]);
 }
 
 // One call, as `run` of the crate engine: the refusal's number is returned, 0 for none, and the eight figures go to `figures`.
@@ -94,6 +48,9 @@ pub fn ham_run(
     ensures order_after { order.new ≡ (answer (given image.now card.now t s h stack.old heap.old wires.old order.old)).order }
     ensures figures_after { figures.new ≡ recorded (answer (given image.now card.now t s h stack.old heap.old wires.old order.old)) figures.old }
 {
-    let r = run(image, card, t, s, h, stack, heap, wires, order);
-    tell(figures, r)
+    let report = run(image, card, t, s, h, stack, heap, wires, order);
+    if report.verdict.is_ok() {
+        record(figures, report.figures());
+    }
+    number_of(report.verdict)
 }

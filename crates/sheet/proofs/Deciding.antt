@@ -5,15 +5,12 @@ use mathlib.Core.List.{List}
 use Prim.Native.Nat.{ℕ, zero, suc, ◌≤◌, ◌<◌}
 use native.Mathlib.Omega.{arith}
 use borrow.Author.Tests.{le-leb, lt-leb}
-use lib.ListN.{length, take, drop, replicate}
-use lib.Seq.{sets}
+use lib.ListN.{length}
 use Rattle.hume.specs.Image.{program, full}
 use Rattle.hume.specs.Refusals.{unless, image_refusal}
-use Rattle.hume.specs.Call.{Given, figures_of, outcome, ran, refused, first_of, lent_refusal, refusal, answer_by, answer}
+use Rattle.hume.specs.Call.{Given, Figures, figures_of, outcome, ran, refused, first_of, lent_refusal, refusal, answer_by, answer}
 use Rattle.hume.specs.Sheet.{image_readable, image_read, sheet_read, sheet_ok, sheet_given, sheet_refusal, parts_refusal, program_refusal, figures_line, refused_line, printed_by, printed}
 use Rattle.gate.proofs.Tests.{and_yes, and_no}
-use Rattle.host.specs.Told.{eight, recorded_by, recorded}
-use Rattle.sheet.specs.Lines.{figures_in}
 
 -- ---- an image that can't be read
 
@@ -52,16 +49,6 @@ module _ (bytes : List ℕ) where
           ∙ le-leb (full bytes 0) (length bytes) h in
           rw e
 
--- as the code finds it: the length word n, and the two parts
-pub read_parts : (bytes image sheet : List ℕ) (n : ℕ) → n ≡ full bytes 0 → 4 ≤ length bytes → n ≤ 33899 → n ≤ length bytes
-    → image ≡ take n bytes → sheet ≡ drop n bytes → printed_by (parts_refusal image sheet) image sheet ≡ printed bytes
-unfolding image_read sheet_read
-read_parts bytes image sheet n e h k s i t =
-    let a : image ≡ image_read bytes = i ∙ ap (λ (x : ℕ). take x bytes) e in
-    let b : sheet ≡ sheet_read bytes = t ∙ ap (λ (x : ℕ). drop x bytes) e in
-    (λ j. printed_by (parts_refusal (a j) (b j)) (a j) (b j))
-    ∙ readable bytes h (omega (arith, e, k)) (omega (arith, e, s))
-
 -- ---- an image and a sheet
 
 refuses : (n : ℕ) (image sheet : List ℕ) → (n ≡ 0 → ⊥) → refused_line n ≡ printed_by n image sheet
@@ -88,11 +75,10 @@ unfolding answer_by ran refused
 answered_by zero g = refl
 answered_by (suc n) g = refl
 
-figured_by : (n : ℕ) (g : Given) (l : List ℕ) → (answer_by n g).refusal ≡ 0
-    → recorded (answer_by n g) l ≡ sets l 0 (eight (figures_of (outcome g)))
-unfolding answer_by ran refused recorded recorded_by
-figured_by zero g l e = refl
-figured_by (suc n) g l e = absurd (omega arith)
+figured_by : (n : ℕ) (g : Given) → (answer_by n g).refusal ≡ 0 → (answer_by n g).figures ≡ figures_of (outcome g)
+unfolding answer_by ran refused
+figured_by zero g e = refl
+figured_by (suc n) g e = absurd (omega arith)
 
 module _ (image sheet : List ℕ) (good : image_refusal image ≡ 0) where
   sheet_decides : parts_refusal image sheet ≡ sheet_refusal image sheet
@@ -118,14 +104,11 @@ module _ (image sheet : List ℕ) (good : image_refusal image ≡ 0) where
     call_refused n e h =
         refuses n image sheet h ∙ ap (λ (k : ℕ). printed_by k image sheet) (e ∙ sym call_decides)
 
-    pub call_figures : (n : ℕ) (l : List ℕ) → n ≡ (answer (sheet_given image sheet)).refusal → n ≡ 0
-        → l ≡ recorded (answer (sheet_given image sheet)) (replicate 8 0)
-        → figures_line (figures_in l) ≡ printed_by (parts_refusal image sheet) image sheet
-    unfolding answer printed_by figures_line
-    call_figures n l e z f =
+    pub call_figures : (f : Figures) → 0 ≡ (answer (sheet_given image sheet)).refusal
+        → f ≡ (answer (sheet_given image sheet)).figures → figures_line f ≡ printed_by (parts_refusal image sheet) image sheet
+    unfolding answer printed_by
+    call_figures f e h =
         let g = sheet_given image sheet in
-        let zero_told : (answer g).refusal ≡ 0 = sym e ∙ z in
-        let h : l ≡ sets (replicate 8 0) 0 (eight (figures_of (outcome g))) =
-        f ∙ figured_by (refusal g) g (replicate 8 0) zero_told in
-        let p : parts_refusal image sheet ≡ 0 = call_decides ∙ zero_told in
-        rw (h, p)
+        let p : parts_refusal image sheet ≡ 0 = call_decides ∙ sym e in
+        let q : f ≡ figures_of (outcome g) = h ∙ figured_by (refusal g) g (sym e) in
+        rw (p, q)

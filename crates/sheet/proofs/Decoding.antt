@@ -1,26 +1,19 @@
 -- Lists that are filled from the front: a sheet's words, and the first order.
 use mathlib.Core.Path.{◌≡◌, refl, sym, ap, ◌∙◌}
-use mathlib.Core.List.{List, [], ◌∷◌, ◌++◌, append_assoc}
-use Prim.Native.Nat.{ℕ, zero, suc, ◌+◌, ◌≤◌, ◌<◌}
+use mathlib.Core.List.{List, [], ◌∷◌, ◌++◌}
+use Prim.Native.Nat.{ℕ, zero, suc, ◌+◌, ◌*◌, ◌≤◌, ◌<◌}
 use native.Mathlib.Numerals.{add-one}
 use native.Mathlib.Omega.{arith}
-use lib.ListN.{length, get_or, set, take, drop}
-use borrow.Rule.Slice.PartMut.{mid_of, post_of, put_mid}
-use lib.Seq.{length-take-le, drop-cons, set_at, take_at, take-append-add}
+use lib.ListN.{length, get_or, take, drop, replicate, length-drop, length-append, length-replicate}
+use Rattle.std.proofs.lemmas.List.{length-take}
+use borrow.Rule.Slice.PartMut.{post_of, put_mid}
+use lib.Seq.{length-take-le, take_at, take-append-add}
 use Rattle.hume.specs.Image.{Program, program, byte}
 use Rattle.hume.specs.Refusals.{image_refusal}
 use Rattle.hume.specs.Sheet.{sheet_word, sheet_words, counting, first_order}
 use Rattle.laws.specs.Accepted.{Accepted}
 use Rattle.laws.proofs.Passed.{image_passed}
 use Rattle.laws.proofs.Accepted.{accepted}
-
--- one more word
-filled : (xs l : List ℕ) (i x : ℕ) → length xs ≡ i → i < length l → set (xs ++ drop i l) i x ≡ (xs ++ x ∷ []) ++ drop (i + 1) l
-filled xs l i x e h =
-    ap (λ (t : List ℕ). set (xs ++ t) i x) (drop-cons l i 0 h)
-    ∙ set_at xs (get_or l i 0) (drop (suc i) l) x i e
-    ∙ sym (append_assoc xs (x ∷ []) (drop (suc i) l))
-    ∙ ap (λ (n : ℕ). (xs ++ x ∷ []) ++ drop n l) (sym (add-one i))
 
 -- ---- the words of a sheet
 
@@ -29,23 +22,18 @@ unfolding sheet_words
 words_length s i zero = refl
 words_length s i (suc n) = ap suc (words_length s (i + 1) n)
 
-words_snoc : (s : List ℕ) (i n : ℕ) → sheet_words s i n ++ (sheet_word s (i + n) ∷ []) ≡ sheet_words s i (suc n)
+-- as many words as there is room for, each in its place
+pub words_written : (s out : List ℕ) (from : ℕ)
+    → ((k : ℕ) → k < length out → get_or out k 0 ≡ sheet_word s (from + k))
+    → out ≡ sheet_words s from (length out)
 unfolding sheet_words
-words_snoc s i zero =
-    let e : i + 0 ≡ i = omega arith in
-    ap (λ (k : ℕ). sheet_word s k ∷ []) e
-words_snoc s i (suc n) =
-    let e : i + suc n ≡ i + 1 + n = omega arith in
-    ap (λ (k : ℕ). sheet_word s i ∷ (sheet_words s (i + 1) n ++ (sheet_word s k ∷ []))) e
-    ∙ ap (λ (t : List ℕ). sheet_word s i ∷ t) (words_snoc s (i + 1) n)
-
-pub words_next : (s out : List ℕ) (from i x : ℕ) → i < length out → x ≡ sheet_word s (from + i)
-    → set (sheet_words s from i ++ drop i out) i x ≡ sheet_words s from (i + 1) ++ drop (i + 1) out
-words_next s out from i x h e =
-    filled (sheet_words s from i) out i x (words_length s from i) h
-    ∙ ap (λ (y : ℕ). (sheet_words s from i ++ (y ∷ [])) ++ drop (i + 1) out) e
-    ∙ ap (λ (t : List ℕ). t ++ drop (i + 1) out) (words_snoc s from i)
-    ∙ ap (λ (n : ℕ). sheet_words s from n ++ drop (i + 1) out) (sym (add-one i))
+words_written s [] from h = refl
+words_written s (x ∷ out) from h =
+    let e : from + 0 ≡ from = omega arith in
+    let here : x ≡ sheet_word s from = h 0 (omega arith) ∙ ap (λ (i : ℕ). sheet_word s i) e in
+    let there : (k : ℕ) → k < length out → get_or out k 0 ≡ sheet_word s (from + 1 + k) =
+    λ k q. let n : from + suc k ≡ from + 1 + k = omega arith in h (suc k) (omega (arith, q)) ∙ ap (λ (i : ℕ). sheet_word s i) n in
+    λ j. here j ∷ words_written s out (from + 1) there j
 
 -- ---- the first order
 
@@ -54,23 +42,16 @@ unfolding counting
 counting_length i zero = refl
 counting_length i (suc n) = ap suc (counting_length (i + 1) n)
 
-counting_snoc : (i n : ℕ) → counting i n ++ ((i + n) ∷ []) ≡ counting i (suc n)
+-- numbers that count up, each in its place
+pub counting_written : (order : List ℕ) (i : ℕ) → ((k : ℕ) → k < length order → get_or order k 0 ≡ i + k)
+    → order ≡ counting i (length order)
 unfolding counting
-counting_snoc i zero =
-    let e : i + 0 ≡ i = omega arith in
-    ap (λ (k : ℕ). k ∷ []) e
-counting_snoc i (suc n) =
-    let e : i + suc n ≡ i + 1 + n = omega arith in
-    ap (λ (k : ℕ). i ∷ (counting (i + 1) n ++ (k ∷ []))) e ∙ ap (λ (t : List ℕ). i ∷ t) (counting_snoc (i + 1) n)
-
-pub counting_next : (order : List ℕ) (i : ℕ) → i < length order
-    → set (counting 0 i ++ drop i order) i i ≡ counting 0 (i + 1) ++ drop (i + 1) order
-counting_next order i h =
-    let e : 0 + i ≡ i = omega arith in
-    filled (counting 0 i) order i i (counting_length 0 i) h
-    ∙ ap (λ (y : ℕ). (counting 0 i ++ (y ∷ [])) ++ drop (i + 1) order) (sym e)
-    ∙ ap (λ (t : List ℕ). t ++ drop (i + 1) order) (counting_snoc 0 i)
-    ∙ ap (λ (n : ℕ). counting 0 n ++ drop (i + 1) order) (sym (add-one i))
+counting_written [] i h = refl
+counting_written (x ∷ order) i h =
+    let here : x ≡ i = h 0 (omega arith) ∙ (omega arith) in
+    let there : (k : ℕ) → k < length order → get_or order k 0 ≡ i + 1 + k =
+    λ k q. let n : i + suc k ≡ i + 1 + k = omega arith in h (suc k) (omega (arith, q)) ∙ n in
+    λ j. here j ∷ counting_written order (i + 1) there j
 
 pub order_next : (P : Program) (r n : ℕ) → n ≡ P.count r → first_order P r ++ counting 0 n ≡ first_order P (r + 1)
 unfolding first_order
@@ -83,6 +64,14 @@ module _ (image : List ℕ) (good : image_refusal image ≡ 0) where
   fits =
       let p = image_passed image good in
       accepted image (program image) p.counts p.code
+
+  pub inputs_most : byte image 5 ≤ 8
+  unfolding program
+  inputs_most = fits.inputs
+
+  pub outputs_most : byte image 6 ≤ 8
+  unfolding program
+  outputs_most = fits.outputs
 
   pub rulesets_most : byte image 7 ≤ 32
   unfolding program
@@ -99,11 +88,32 @@ take_both xs ys zs a b e f =
     ∙ take-append-add xs (ys ++ zs) b
     ∙ ap (λ (t : List ℕ). xs ++ t) (take_at ys zs b f)
 
-pub order_part : (order last : List ℕ) (done k n : ℕ) → done ≤ length order → last ≡ counting 0 n ++ drop n (mid_of done k order)
-    → take (done + n) (put_mid done k order last) ≡ take done order ++ counting 0 n
-order_part order last done k n h e =
-    let rest = drop n (mid_of done k order) in
-    ap (λ (t : List ℕ). take (done + n) (take done order ++ (t ++ post_of done k order))) e
-    ∙ ap (λ (t : List ℕ). take (done + n) (take done order ++ t)) (append_assoc (counting 0 n) rest (post_of done k order))
-    ∙ take_both (take done order) (counting 0 n) (rest ++ post_of done k order) done n (length-take-le done order h)
-    (counting_length 0 n)
+pub order_part : (order last : List ℕ) (done w n : ℕ) → done + n ≤ length order → w ≡ n
+    → last ≡ counting 0 (length (take w (drop done order)))
+    → take (done + n) (put_mid done w order last) ≡ take done order ++ counting 0 n
+order_part order last done w n h e l =
+    let long : length (take w (drop done order)) ≡ n = omega (arith, length-take {A = ℕ}, length-drop {A = ℕ}) in
+    ap (λ (t : List ℕ). take (done + n) (put_mid done w order t)) (l ∙ ap (λ (k : ℕ). counting 0 k) long)
+    ∙ take_both (take done order) (counting 0 n) (post_of done w order) done n (length-take-le done order (omega (arith, h))) (counting_length 0 n)
+
+-- the wires: what the sheet has in front, and in what is lent behind it nothing
+module _ (image sheet wires inputs outputs : List ℕ) (i o w : ℕ) (ei : i ≡ byte image 5) (eo : o ≡ byte image 6) (ew : w ≡ 65 * o)
+    (long : 65 * i + 65 * o ≤ length wires) where
+  pub wires_given : inputs ≡ sheet_words sheet 45 (length (take (65 * i) wires))
+      → outputs ≡ replicate (length (take w (drop (65 * i) (inputs ++ drop (65 * i) wires)))) 0
+      → take (65 * i + 65 * o) (put_mid (65 * i) w (inputs ++ drop (65 * i) wires) outputs)
+      ≡ sheet_words sheet 45 (65 * (program image).inputs) ++ replicate (65 * (program image).outputs) 0
+  unfolding program
+  wires_given ein eout =
+      let lent : length (take (65 * i) wires) ≡ 65 * i = length-take-le (65 * i) wires (omega (arith, long)) in
+      let ins : inputs ≡ sheet_words sheet 45 (65 * i) = ein ∙ ap (λ (n : ℕ). sheet_words sheet 45 n) lent in
+      let n : length inputs ≡ 65 * i = ap length ins ∙ words_length sheet 45 (65 * i) in
+      let rest : length (take w (drop (65 * i) (inputs ++ drop (65 * i) wires))) ≡ 65 * o =
+      omega (arith, length-take {A = ℕ}, length-drop {A = ℕ}, length-append {A = ℕ}, n, long, ew) in
+      let outs : outputs ≡ replicate (65 * o) 0 = eout ∙ ap (λ (k : ℕ). replicate k 0) rest in
+      let both = inputs ++ drop (65 * i) wires in
+      ap (λ (t : List ℕ). take (65 * i + 65 * o) (t ++ (outputs ++ post_of (65 * i) w both))) (take_at inputs (drop (65 * i) wires) (65 * i) n)
+      ∙ take_both inputs outputs (post_of (65 * i) w both) (65 * i) (65 * o) n (ap length outs ∙ length-replicate (65 * o) 0)
+      ∙ (λ j. ins j ++ outs j)
+      ∙ ap (λ (k : ℕ). sheet_words sheet 45 (65 * k) ++ replicate (65 * o) 0) ei
+      ∙ ap (λ (k : ℕ). sheet_words sheet 45 (65 * byte image 5) ++ replicate (65 * k) 0) eo

@@ -1,15 +1,17 @@
 -- A line that is written from its end: one byte more in front, the digits of a number, a text, the figures.
 use mathlib.Core.Path.{◌≡◌, refl, sym, ap, ◌∙◌}
-use mathlib.Core.List.{List, [], ◌∷◌, ◌++◌}
+use mathlib.Core.List.{List, [], ◌∷◌, ◌++◌, reverse}
 use Prim.Native.Nat.{ℕ, zero, suc, ◌+◌, ◌-◌, ◌/◌, ◌%◌, ◌≤◌, ◌<◌}
 use native.Mathlib.Nat.{mod-eq_of_lt}
+use native.Mathlib.Numerals.{add-one}
 use native.Mathlib.Omega.{arith}
 use borrow.Author.Tests.{lt-ltb, le-ltb}
 use lib.ListN.{length, get_or, set, take, drop, length-set, length-drop, take-append-drop, drop_of_length-le}
-use lib.Seq.{length-take-le, drop-cons, set_split, drop_at, take-set-le, take-take}
+use lib.Seq.{length-take-le, set_split, drop_at, take-set-le, take-take}
 use Rattle.hume.specs.Tests.{pick}
 use Rattle.hume.specs.Sheet.{digits, decimal, figures_line, refused_line, space, newline}
 use Rattle.hume.specs.Call.{Figures}
+use Rattle.engine.specs.Reports.{eight}
 use Rattle.sheet.specs.Lines.{Kept, Text}
 
 -- a byte in front of what stands at k
@@ -40,23 +42,7 @@ unfolding digits
 digits_none zero n t h = refl
 digits_none (suc f) n t h = absurd (omega arith)
 
--- ---- a text
-
-pub text_front : (text t : List ℕ) (k : ℕ) → 1 ≤ k → k ≤ length text
-    → get_or text (k - 1) 0 ∷ (drop k text ++ t) ≡ drop (k - 1) text ++ t
-text_front text t k low high =
-    let h : k - 1 < length text = omega arith in
-    let e : suc (k - 1) ≡ k = omega arith in
-    sym
-    (ap (λ (x : List ℕ). x ++ t) (drop-cons text (k - 1) 0 h)
-    ∙ ap (λ (n : ℕ). get_or text (k - 1) 0 ∷ (drop n text ++ t)) e)
-
 -- ---- a line
-
--- the same text, otherwise said
-pub retold : {before l t t' : List ℕ} {size r least most : ℕ} → Text size before l r t least most → t ≡ t'
-    → Text size before l r t' 0 most
-retold x e = record { is = x.is ∙ e; kept = x.kept; low = omega arith; high = x.high; sized = x.sized }
 
 -- two lines that have the same text, where the same was before, are the same line, and the text begins at one place
 pub record Same (l m : List ℕ) (r s : ℕ) : Type 0 where
@@ -101,6 +87,13 @@ pub last_digit : (line : List ℕ) (at left rest : ℕ) → 1 ≤ at → at ≤ 
 last_digit line at left rest low high more small =
     put_front line at _ low high ∙ sym (digits_last left rest (drop at line) more small)
 
+-- and each digit before it in front of those
+pub more_digits : (line : List ℕ) (at left rest : ℕ) → 1 ≤ at → at ≤ length line → 0 < left → 10 ≤ rest
+    → digits (left - 1) (rest / 10) (drop (at - 1) (set line (at - 1) (48 + rest % 10))) ≡ digits left rest (drop at line)
+more_digits line at left rest low high more large =
+    ap (λ (t : List ℕ). digits (left - 1) (rest / 10) t) (put_front line at _ low high)
+    ∙ sym (digits_more left rest (drop at line) more large)
+
 -- what is said of a number whose last digit is put
 pub ruleset number_done = (last_digit, kept_front, length-set)
 
@@ -110,28 +103,26 @@ line_end l n e =
     let h : length l ≤ n = omega (arith, e) in
     drop_of_length-le l h
 
--- a figure is put in front of the byte that is there already
-pub figure_front : (line l : List ℕ) (end n after r : ℕ) → 11 ≤ end → end ≤ length line
-    → Text (length (set line (end - 1) after)) (set line (end - 1) after) l r
-    (decimal n (drop (end - 1) (set line (end - 1) after))) (end - 1 - 10) (end - 1)
-    → Text (length line) line l r (decimal n (after ∷ drop end line)) (end - 11) end
-figure_front line l end n after r low high x =
-    let e = length-set line (end - 1) after in
-    record {
-      is = x.is ∙ ap (λ (t : List ℕ). decimal n t) (put_front line end after (omega arith) high);
-      kept = kept_both (kept_set line (end - 1) after (end - 1) (omega arith)) x.kept x.high;
-      low = omega (arith, x.low);
-      high = omega (arith, x.high);
-      sized = x.sized ∙ e;
-    }
+-- the byte after the last figure but k
+abbrev pub after_last : ℕ → ℕ
+after_last zero = newline
+after_last (suc k) = space
+
+-- the last k figures, which are given from the last on
+abbrev pub last_figures : List ℕ → ℕ → List ℕ
+last_figures back zero = []
+last_figures back (suc k) = decimal (get_or back k 0) (after_last k ∷ last_figures back k)
+
+-- one figure more
+pub one_figure : (back : List ℕ) (k n x after : ℕ) {t u : List ℕ} → n ≡ k + 1 → x ≡ get_or back k 0 → after ≡ after_last k
+    → t ≡ last_figures back k → u ≡ decimal x (after ∷ t) → u ≡ last_figures back n
+one_figure back k n x after e ex ea et eu =
+    eu ∙ (λ j. decimal (ex j) (ea j ∷ et j)) ∙ ap (λ (m : ℕ). last_figures back m) (sym (e ∙ add-one k))
 
 -- "the eight figures in that order on one line"
-pub eight_figures : (f : Figures) {t0 t1 t2 t3 t4 t5 t6 t7 t8 : List ℕ} → t0 ≡ [] → t1 ≡ decimal f.heap (newline ∷ t0)
-    → t2 ≡ decimal f.depth (space ∷ t1) → t3 ≡ decimal f.peak (space ∷ t2) → t4 ≡ decimal f.time (space ∷ t3)
-    → t5 ≡ decimal f.steps (space ∷ t4) → t6 ≡ decimal f.pc (space ∷ t5) → t7 ≡ decimal f.detail (space ∷ t6)
-    → t8 ≡ decimal f.ending (space ∷ t7) → t8 ≡ figures_line f
+pub all_figures : (f : Figures) → last_figures (reverse (eight f)) 8 ≡ figures_line f
 unfolding figures_line
-eight_figures f e0 e1 e2 e3 e4 e5 e6 e7 e8 = rw (e8, e7, e6, e5, e4, e3, e2, e1, e0)
+all_figures f = refl
 
 pub refused_text : (n : ℕ) {t0 t1 t2 : List ℕ} → t0 ≡ [] → t1 ≡ decimal n (newline ∷ t0)
     → t2 ≡ (114 ∷ 101 ∷ 102 ∷ 117 ∷ 115 ∷ 101 ∷ 100 ∷ 32 ∷ []) ++ t1 → t2 ≡ refused_line n

@@ -1,26 +1,17 @@
 -- A sheet's length and version, and how much is needed, test after test.
-use mathlib.Core.Path.{◌≡◌, sym, ap, ◌∙◌}
-use mathlib.Core.Bool.{true, false}
+use mathlib.Core.Path.{◌≡◌}
 use mathlib.Core.List.{List}
-use Prim.Native.Nat.{ℕ, ◌+◌, ◌-◌, ◌≤◌, ◌<◌}
+use Prim.Native.Nat.{ℕ, ◌+◌, ◌≤◌, ◌<◌}
 use native.Mathlib.Omega.{arith}
-use borrow.Author.Tests.{le-leb, lt-leb, le-ltb, lt-ltb, eq-eqb, ne_eqb}
-use lib.Dec.{leb, eqb}
-use lib.ListN.{length, take, drop, length-drop}
-use lib.Seq.{take_all}
+use borrow.Author.Tests.{le-ltb, lt-ltb, eq-eqb, ne_eqb}
+use lib.ListN.{length}
 use Rattle.hume.specs.Tests.{pick}
 use Rattle.hume.specs.Image.{program, full}
 use Rattle.hume.specs.Refusals.{image_refusal}
-use Rattle.hume.specs.Sheet.{image_read, sheet_read, sheet_word, sheet_length, sheet_ok}
+use Rattle.hume.specs.Sheet.{image_read, sheet_read, sheet_word, sheet_length}
 use Rattle.laws.proofs.Passed.{image_passed}
 use Rattle.laws.proofs.Accepted.{accepted}
-use Rattle.gate.proofs.Tests.{and_yes, and_no}
-use Rattle.gate.specs.Parts.{Read}
 use Rattle.sheet.specs.Needed.{needed, sheet_needed}
-
--- the rest of a list, however its end is given
-pub rest_is : (l : List ℕ) (n : ℕ) → take (length l - n) (drop n l) ≡ drop n l
-rest_is l n = take_all (length l - n) (drop n l) (omega (arith, length-drop n l))
 
 -- an accepted image has at most 8 inputs
 pub length_most : (image : List ℕ) → image_refusal image ≡ 0 → sheet_length (program image) ≤ 2260
@@ -32,33 +23,6 @@ length_most image e =
 pub length_least : (image : List ℕ) → 180 ≤ sheet_length (program image)
 unfolding sheet_length
 length_least image = omega arith
-
--- ---- "9 | run sheet length or version"
-
-module _ (image sheet : List ℕ) (long : ℕ) (e : long ≡ sheet_length (program image)) where
-  pub ok_short : length sheet < long → leb long (length sheet) ≡ sheet_ok (program image) sheet
-  unfolding sheet_ok
-  ok_short h =
-      lt-leb long (length sheet) h
-      ∙ sym (and_no _ _ (lt-leb (sheet_length (program image)) (length sheet) (omega (arith, e, h))))
-
-  module _ (h : long ≤ length sheet) (w : ℕ) (ew : w ≡ full sheet 0) where
-    long_enough : leb (sheet_length (program image)) (length sheet) ≡ true
-    long_enough = le-leb (sheet_length (program image)) (length sheet) (omega (arith, e, h))
-
-    pub ok_length : (w ≡ long → ⊥) → eqb w long ≡ sheet_ok (program image) sheet
-    unfolding sheet_ok sheet_word
-    ok_length d =
-        let n : eqb (full sheet 0) (sheet_length (program image)) ≡ false =
-        ne_eqb (full sheet 0) (sheet_length (program image)) (λ q. d (ew ∙ q ∙ sym e)) in
-        ne_eqb w long d ∙ sym (and_yes _ _ long_enough ∙ and_no _ _ n)
-
-    pub ok_version : w ≡ long → (v : ℕ) → v ≡ full sheet 4 → eqb v 1 ≡ sheet_ok (program image) sheet
-    unfolding sheet_ok sheet_word
-    ok_version s v ev =
-        let y : eqb (full sheet 0) (sheet_length (program image)) ≡ true =
-        eq-eqb (full sheet 0) (sheet_length (program image)) (sym ew ∙ s ∙ e) in
-        ap (λ (x : ℕ). eqb x 1) ev ∙ sym (and_yes _ _ long_enough ∙ and_yes _ _ y)
 
 -- ---- of the sheet
 
@@ -92,24 +56,6 @@ module _ (image sheet : List ℕ) where
             eq-eqb (sheet_word sheet 0) (sheet_length (program image)) s,
           )
 
--- as the code finds it: the length word w and the length
-module _ (image sheet : List ℕ) (good : image_refusal image ≡ 0) (h : 4 ≤ length sheet)
-    (long w : ℕ)
-    (e : long ≡ sheet_length (program image))
-    (ew : w ≡ full sheet 0) where
-  pub wrong_found : (w ≡ long → ⊥) → Read (sheet_needed image sheet) 2261 4
-  unfolding sheet_word
-  wrong_found d =
-      record { is = no_more image sheet good h (λ q. d (ew ∙ q ∙ sym e)); small = omega arith }
-
-  pub right_found : w ≡ long → Read (sheet_needed image sheet) 2261 long
-  unfolding sheet_word
-  right_found s =
-      record {
-        is = e ∙ all_needed image sheet good h (sym ew ∙ s ∙ e);
-        small = omega (arith, e, length_most image good);
-      }
-
 -- ---- of the whole input
 
 module _ (bytes : List ℕ) where
@@ -133,13 +79,3 @@ module _ (bytes : List ℕ) where
       unfolding needed pick
       sheet_needed_lem s =
           rw (le-ltb (length bytes) 4 h, le-ltb 33899 (full bytes 0) k, le-ltb (length bytes) (full bytes 0) s)
-
--- as the code finds it: the length word n, and what is needed of a sheet that is the rest
-pub both_needed : (bytes image sheet : List ℕ) (n m : ℕ) → n ≡ full bytes 0 → 4 ≤ length bytes → n ≤ 33899 → n ≤ length bytes
-    → image ≡ take n bytes → sheet ≡ drop n bytes → Read (sheet_needed image sheet) 2261 m → Read (needed bytes) 36160 (n + m)
-unfolding image_read sheet_read
-both_needed bytes image sheet n m e h k s i t r =
-    let a : sheet_needed image sheet ≡ sheet_needed (image_read bytes) (sheet_read bytes) =
-    λ j. sheet_needed ((i ∙ ap (λ (x : ℕ). take x bytes) e) j) ((t ∙ ap (λ (x : ℕ). drop x bytes) e) j) in
-    let b = sheet_needed_lem bytes h (omega (arith, e, k)) (omega (arith, e, s)) in
-    record { is = omega (arith, e, r.is, a, b); small = omega (arith, k, r.small) }

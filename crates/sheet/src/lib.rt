@@ -3,144 +3,138 @@
 
 mod decode;
 mod line;
+mod refusals;
 
-ghost use Rattle.std.specs.Prelude.{◌≡◌, true, take};
+ghost use Rattle.std.specs.Prelude.{◌≡◌, true, false, MatchResult};
 ghost use Rattle.hume.specs.Image.{program};
-ghost use Rattle.hume.specs.Refusals.{image_refusal};
-ghost use Rattle.hume.specs.Call.{answer};
-ghost use Rattle.hume.specs.Sheet.{printed, printed_by, parts_refusal, sheet_ok, sheet_length, sheet_given};
+ghost use Rattle.hume.specs.Sheet.{printed, printed_by, parts_refusal, image_readable, image_read, sheet_read, sheet_ok, sheet_length};
 ghost use Rattle.gate.specs.Parts.{Read};
-ghost use Rattle.host.specs.Told.{recorded};
 ghost use Rattle.sheet.specs.Lines.{Text};
 ghost use Rattle.sheet.specs.Needed.{needed as neededOf, sheet_needed};
+ghost use Rattle.sheet.specs.Said.{said};
 
-use decode::{first_order, word, words};
+use decode::Asked;
+use engine::Report;
 use gate::image::{byte_at, full_at};
-use gate::image_verdict;
-use host::{ham_run, number_of};
+use gate::{Refusal, image_verdict};
 use line::{figures_line, refused_line};
+use refusals::TurnedAway;
+
+// The longest input that is read: the longest image, and the sheet of one with 8 inputs.
+pub const INPUT_MOST: usize = 36_159;
+
+const IMAGE_MOST: usize = 33_899;
+
+// The bytes of a word. An image and a sheet begin with one, their length.
+pub(crate) const WORD: usize = 4;
+
+// The words of a sheet before its wires, and those of a wire.
+pub(crate) const SHEET_HEAD: usize = 45;
+
+pub(crate) const WIRE: usize = 65;
 
 // The length that the image's run sheet has.
+#[tactic(auto, unfolding(hume::specs::Sheet::sheet_length, hume::specs::Image::program))]
 fn sheet_length(image: &[u8]) -> usize
     ensures { Read (sheet_length (program image.now)) 66500 result }
 {
-    4 * (45 + 65 * byte_at(image, 5))
+    WORD * (SHEET_HEAD + WIRE * byte_at(image, 5))
 }
 
 // "9 | run sheet length or version"
+#[tactic(auto, unfolding(hume::specs::Sheet::sheet_ok, hume::specs::Sheet::sheet_word))]
 fn sheet_ok(image: &[u8], sheet: &[u8]) -> bool
     ensures { result ≡ sheet_ok (program image.now) sheet.now }
 {
     let long = sheet_length(image);
-    long <= sheet.len() && (full_at(sheet, 0) == long && full_at(sheet, 4) == 1)
+    long <= sheet.len() && (full_at(sheet, 0) == long && full_at(sheet, WORD) == 1)
 }
 
 // ---- how much is read
 
+#[tactic(auto, using(crate::proofs::Needing::length_most), unfolding(crate::specs::Needed::sheet_needed, hume::specs::Tests::pick, hume::specs::Sheet::sheet_word))]
 fn sheet_needed(image: &[u8], sheet: &[u8]) -> usize
     ensures { Read (sheet_needed image.now sheet.now) 2261 result }
 {
-    if number_of(image_verdict(image)) != 0 {
+    if image_verdict(image).is_err() {
         return 0;
     }
-    if sheet.len() < 4 {
-        return 4;
+    if sheet.len() < WORD {
+        return WORD;
     }
     let long = sheet_length(image);
     if full_at(sheet, 0) != long {
-        return 4;
+        return WORD;
     }
     long
 }
 
 // How many bytes of the input have to be read, as far as those read so far tell.
+#[tactic(auto, unfolding(crate::specs::Needed::needed, hume::specs::Tests::pick, hume::specs::Sheet::image_read, hume::specs::Sheet::sheet_read))]
 pub fn needed(input: &[u8]) -> usize
     ensures { Read (neededOf input.now) 36160 result }
 {
-    if input.len() < 4 {
-        return 4;
+    if input.len() < WORD {
+        return WORD;
     }
     let n = full_at(input, 0);
-    if 33899 < n {
-        return 4;
+    if IMAGE_MOST < n {
+        return WORD;
     }
-    if input.len() < n {
+    let Some((image, sheet)) = input.split_at_checked(n) else {
         return n;
-    }
-    n + sheet_needed(&input[..n], &input[n..])
+    };
+    n + sheet_needed(image, sheet)
 }
 
 // ---- what is printed
 
-// "Outputs start empty, order 0, 1, 2...": the call that the sheet asks for, its refusal returned and its figures written.
-fn run_sheet(image: &[u8], sheet: &[u8], figures: &mut [u32; 8]) -> u32
-    requires { image_refusal image.now ≡ 0 }
-    ensures value { result ≡ (answer (sheet_given image.now sheet.now)).refusal }
-    ensures figures_after { figures.new ≡ recorded (answer (sheet_given image.now sheet.now)) figures.old }
+// The image, and what comes after it. "1 if its length is over 33,899 or the input ends first"
+#[tactic(auto, unfolding(hume::specs::Sheet::image_readable, hume::specs::Sheet::image_read, hume::specs::Sheet::sheet_read))]
+fn parts(input: &[u8]) -> Result<(&[u8], &[u8]), Refusal>
+    ensures { MatchResult result
+        (λ p. (image_readable input.now ≡ true) × (p.0.now ≡ image_read input.now) × (p.1.now ≡ sheet_read input.now))
+        (λ r. (image_readable input.now ≡ false) × (r ≡ Refusal.Length)) }
 {
-    let mut card = [0u32; 40];
-    let mut stack = [0u32; 4096];
-    let mut heap = [0u32; 16384];
-    let mut wires = [0u32; 1040];
-    let mut order = [0u32; 512];
-    let inputs = 65 * byte_at(image, 5);
-    let both = inputs + 65 * byte_at(image, 6);
-    words(sheet, 5, 40, &mut card);
-    words(sheet, 45, inputs, &mut wires);
-    let rules = first_order(image, &mut order);
-    ham_run(
-        image,
-        &card,
-        word(sheet, 2),
-        word(sheet, 3),
-        word(sheet, 4),
-        &mut stack,
-        &mut heap,
-        &mut wires[..both],
-        &mut order[..rules],
-        figures,
-    )
+    if input.len() < WORD {
+        return Err(Refusal::Length);
+    }
+    let n = full_at(input, 0);
+    if IMAGE_MOST < n {
+        return Err(Refusal::Length);
+    }
+    input.split_at_checked(n).ok_or(Refusal::Length)
 }
 
-// 9 and what comes after it, for an accepted image.
-fn print_sheet(image: &[u8], sheet: &[u8], line: &mut [u8; 88]) -> usize
-    requires { image_refusal image.now ≡ 0 }
-    ensures { Text 88 line.old line.new result (printed_by (parts_refusal image.now sheet.now) image.now sheet.now) 0 88 }
+// The run that an image and a sheet ask for, or what turns them away.
+#[tactic(auto, unfolding(hume::specs::Sheet::parts_refusal, hume::specs::Sheet::sheet_refusal, hume::specs::Sheet::printed_by, hume::specs::Call::first_of, hume::specs::Refusals::unless))]
+fn run_parts(image: &[u8], sheet: &[u8]) -> Result<Report, TurnedAway>
+    ensures { said result ≡ printed_by (parts_refusal image.now sheet.now) image.now sheet.now }
 {
+    image_verdict(image)?;
     if !sheet_ok(image, sheet) {
-        return refused_line(line, 9);
+        return Err(TurnedAway::Sheet);
     }
-    let mut figures = [0u32; 8];
-    let n = run_sheet(image, sheet, &mut figures);
-    if n != 0 {
-        return refused_line(line, n);
-    }
-    figures_line(line, &figures)
+    let report = Asked { image, sheet }.run();
+    report.verdict?;
+    Ok(report)
 }
 
-fn print_parts(image: &[u8], sheet: &[u8], line: &mut [u8; 88]) -> usize
-    ensures { Text 88 line.old line.new result (printed_by (parts_refusal image.now sheet.now) image.now sheet.now) 0 88 }
+// The same of the whole input.
+#[tactic(auto, unfolding(hume::specs::Sheet::printed, hume::specs::Sheet::program_refusal, hume::specs::Sheet::printed_by, hume::specs::Refusals::unless))]
+fn run_input(input: &[u8]) -> Result<Report, TurnedAway>
+    ensures { said result ≡ printed input.now }
 {
-    let n = number_of(image_verdict(image));
-    if n != 0 {
-        return refused_line(line, n);
-    }
-    print_sheet(image, sheet, line)
+    let (image, sheet) = parts(input)?;
+    run_parts(image, sheet)
 }
 
 // What the program prints for its input: it stands in the line from the returned place to the end.
 pub fn print(input: &[u8], line: &mut [u8; 88]) -> usize
     ensures { Text 88 line.old line.new result (printed input.now) 0 88 }
 {
-    if input.len() < 4 {
-        return refused_line(line, 1);
+    match run_input(input) {
+        Ok(report) => figures_line(line, &report),
+        Err(turned_away) => refused_line(line, u32::from(turned_away)),
     }
-    let n = full_at(input, 0);
-    if 33899 < n {
-        return refused_line(line, 1);
-    }
-    if input.len() < n {
-        return refused_line(line, 1);
-    }
-    print_parts(&input[..n], &input[n..], line)
 }

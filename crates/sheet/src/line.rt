@@ -1,27 +1,27 @@
 // "It prints the eight figures in that order on one line, or `refused N`." The line is written from its end to its beginning, as digits come.
 ghost use Rattle.std.specs.Prelude.{◌≡◌, ◌∷◌, ◌++◌, ◌-◌, ◌≤◌, length, drop};
 ghost use Rattle.hume.specs.Sheet.{decimal, figures_line, refused_line};
-ghost use Rattle.sheet.specs.Lines.{Text, figures_in};
+ghost use Rattle.engine.specs.Reports.{reported};
+ghost use Rattle.sheet.specs.Lines.{Text};
 
-// The digits of n, before what stands at `end`. A figure is below 2^32, so it has at most 10 digits.
+use engine::Report;
+
+// The digits of n, before what stands at `end`. A figure is below 2^32, so it has at most 10 digits. By hand: std's `write!` promises its text
+// where it answers Ok, and never that it does, and the kit's crate `itoa` would be one more whose promises are trusted.
 #[tactic(auto, using(crate::proofs::Lines::number_done))]
 fn put_decimal(line: &mut [u8], end: usize, n: u32) -> usize
     requires { (10 ≤ end) × (end ≤ length line.old) }
     ensures { Text (length line.old) line.old line.new result (decimal n (drop end line.old)) (end - 10) end }
 {
-    let mut at = end;
     let mut rest = n;
-    let mut left: usize = 10;
-    while 0 < left {
-        at -= 1;
-        line[at] = 48 + (rest % 10) as u8;
+    for at in (end - 10..end).rev() {
+        line[at] = b'0' + (rest % 10) as u8;
         if rest < 10 {
             return at;
         }
         rest /= 10;
-        left -= 1;
     }
-    at
+    end - 10
 }
 
 // A figure and the byte after it, before what stands at `end`.
@@ -38,27 +38,22 @@ fn put_text(line: &mut [u8], end: usize, text: &[u8]) -> usize
     requires { (length text.now ≤ end) × (end ≤ length line.old) }
     ensures { Text (length line.old) line.old line.new result (text.now ++ drop end line.old) 0 end }
 {
-    let mut at = end;
-    let mut left = text.len();
-    while 0 < left {
-        at -= 1;
-        left -= 1;
-        line[at] = text[left];
-    }
-    at
+    let start = end - text.len();
+    line[start..end].copy_from_slice(text);
+    start
 }
 
-pub(crate) fn figures_line(line: &mut [u8; 88], figures: &[u32; 8]) -> usize
-    ensures { Text 88 line.old line.new result (figures_line (figures_in figures.now)) 0 88 }
+pub(crate) fn figures_line(line: &mut [u8; 88], report: &Report) -> usize
+    ensures { Text 88 line.old line.new result (figures_line (reported report.now)) 0 88 }
 {
-    let heap = put_figure(line, 88, figures[7], b'\n');
-    let depth = put_figure(line, heap, figures[6], b' ');
-    let peak = put_figure(line, depth, figures[5], b' ');
-    let time = put_figure(line, peak, figures[4], b' ');
-    let steps = put_figure(line, time, figures[3], b' ');
-    let pc = put_figure(line, steps, figures[2], b' ');
-    let detail = put_figure(line, pc, figures[1], b' ');
-    put_figure(line, detail, figures[0], b' ')
+    let figures = report.figures();
+    let mut at = 88;
+    let mut after = b'\n';
+    for figure in figures.iter().rev() {
+        at = put_figure(line, at, *figure, after);
+        after = b' ';
+    }
+    at
 }
 
 pub(crate) fn refused_line(line: &mut [u8; 88], n: u32) -> usize

@@ -1,30 +1,51 @@
-use mathlib.Core.Path.{◌∙◌}
-use native.Mathlib.Omega.{arith}
-use Rattle.sheet.specs.Lines.{figures_in}
-use Rattle.sheet.proofs.Lines.{line_end, kept_both, eight_figures}
+use Rattle.std.proofs.Common.{◌≡◌, ℕ, ◌<◌, List, length, get_or, reverse, refl, sym, ap, ◌∙◌, add-one, arith}
+use Rattle.std.proofs.lemmas.Iterator.Adapters.{YieldsList-from_rev_slice}
+use Rattle.std.proofs.lemmas.Iterator.Consumers.{YieldsList-turn, YieldsList-end}
+use Rattle.std.proofs.lemmas.Grind.{get_or_default_zero}
+use Rattle.std.proofs.lemmas.List.{length_push}
+use Rattle.engine.specs.Reports.{eight, reported}
+use Rattle.sheet.proofs.Lines.{line_end, kept_all, kept_both, after_last, last_figures, one_figure, all_figures}
 use Rattle.sheet.proofs.line.figures_line.Goals as goal
 
-pub put_figure-requires : goal.put_figure-requires
-put_figure-requires c =
-    let long = c.put_figure-arg-15-1.given.0.1 in
-    (omega (arith, c.put_figure-heap.ensures.low, c.put_figure-depth.ensures.low, c.put_figure-peak.ensures.low, c.put_figure-time.ensures.low, c.put_figure-steps.ensures.low, c.put_figure-pc.ensures.low, c.put_figure-detail.ensures.low), omega (arith, long, c.put_figure-heap.ensures.high, c.put_figure-depth.ensures.high, c.put_figure-peak.ensures.high, c.put_figure-time.ensures.high, c.put_figure-steps.ensures.high, c.put_figure-pc.ensures.high, c.put_figure-detail.ensures.high))
+pub loop-figure-init : goal.loop-figure-init
+loop-figure-init c =
+    record { room = omega arith; high = omega arith; after = refl; written = line_end c.args.line.now 88 (omega arith); sized = omega arith; kept = kept_all _ _ }
+
+pub loop-figure-preserved : goal.loop-figure-preserved
+loop-figure-preserved c =
+    let loop = c.loop-figure in
+    let k = length loop.yielded in
+    let put = c.put_figure-at.ensures in
+    let t =
+    YieldsList-turn (YieldsList-from_rev_slice c.figures-figures.result cc) loop.yielded _ loop.yielded_by _ _ c.in-Some.figure c.in-Some.is c.next.ensures.steps in
+    let n = length_push loop.yielded c.in-Some.figure in
+    let more : k < 8 = omega (arith, t.0, ap (λ (l : List ℕ). length (reverse l)) c.figures-figures.ensures) in
+    let x : c.in-Some.figure.now ≡ get_or (reverse (eight (reported c.args.report.now))) k 0 =
+    t.1
+    ∙ get_or_default_zero (reverse c.figures-figures.result) k _ t.0
+    ∙ ap (λ (l : List ℕ). get_or (reverse l) k 0) c.figures-figures.ensures in
+    record {
+      room = omega (arith, n, more);
+      high = omega arith;
+      after = sym (ap after_last (n ∙ add-one k));
+      written = one_figure (reverse (eight (reported c.args.report.now))) k _ _ _ n x loop.invariant.after loop.invariant.written put.is;
+      sized = put.sized ∙ loop.invariant.sized;
+      kept = kept_both loop.invariant.kept put.kept put.high;
+    }
 
 pub returns : goal.returns
 returns c =
-    let f = figures_in c.args.figures.now in
-    let e = line_end c.args.line.now 88 c.put_figure-arg-1.given.0.1 in
-    let k1 = c.put_figure-heap.ensures.kept in
-    let k2 = kept_both k1 c.put_figure-depth.ensures.kept c.put_figure-depth.ensures.high in
-    let k3 = kept_both k2 c.put_figure-peak.ensures.kept c.put_figure-peak.ensures.high in
-    let k4 = kept_both k3 c.put_figure-time.ensures.kept c.put_figure-time.ensures.high in
-    let k5 = kept_both k4 c.put_figure-steps.ensures.kept c.put_figure-steps.ensures.high in
-    let k6 = kept_both k5 c.put_figure-pc.ensures.kept c.put_figure-pc.ensures.high in
-    let k7 = kept_both k6 c.put_figure-detail.ensures.kept c.put_figure-detail.ensures.high in
-    let k8 = kept_both k7 c.put_figure.ensures.kept c.put_figure.ensures.high in
+    let loop = c.loop-figure in
+    let t =
+    YieldsList-end (YieldsList-from_rev_slice c.figures-figures.result cc) loop.yielded _ loop.yielded_by _ _ c.in-None.is c.next.ensures.steps in
+    let n : length loop.yielded ≡ 8 = t.1 ∙ ap (λ (l : List ℕ). length (reverse l)) c.figures-figures.ensures in
     record {
-      is = eight_figures f e c.put_figure-heap.ensures.is c.put_figure-depth.ensures.is c.put_figure-peak.ensures.is c.put_figure-time.ensures.is c.put_figure-steps.ensures.is c.put_figure-pc.ensures.is c.put_figure-detail.ensures.is c.put_figure.ensures.is;
-      kept = k8;
+      is =
+          loop.invariant.written
+          ∙ ap (λ (k : ℕ). last_figures (reverse (eight (reported c.args.report.now))) k) n
+          ∙ all_figures (reported c.args.report.now);
+      kept = loop.invariant.kept;
       low = omega arith;
-      high = omega (arith, c.put_figure-heap.ensures.high, c.put_figure-depth.ensures.high, c.put_figure-peak.ensures.high, c.put_figure-time.ensures.high, c.put_figure-steps.ensures.high, c.put_figure-pc.ensures.high, c.put_figure-detail.ensures.high, c.put_figure.ensures.high);
-      sized = c.put_figure.ensures.sized ∙ c.put_figure-arg-15-1.given.0.1;
+      high = loop.invariant.high;
+      sized = loop.invariant.sized;
     }
