@@ -91,8 +91,8 @@ const OUTPUT_A: Format = Format {
     ..BARE
 };
 
-// By opcode, from 1.
-const FORMATS: [Format; 40] = [
+// By opcode, from 1. A static: a constant table would be made anew for each instruction.
+static FORMATS: [Format; 40] = [
     TRUTH_C, // 1 MkBool
     ANY_C, // 2 MkInt
     ANY_C, // 3 MkFloat

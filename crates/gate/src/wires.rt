@@ -61,6 +61,7 @@ fn block_ok(h: u32, n: u32) -> bool
 
 // Where the cell that begins at i ends, if one does.
 #[cycle(cell_end_fields_end)]
+#[inline(always)]
 fn cell_end(s: &[u32], i: usize) -> Option<usize>
     ensures { CellEnds s.now i result }
 {
