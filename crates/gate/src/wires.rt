@@ -87,7 +87,7 @@ fn fields_end(s: &[u32], i: usize, n: u32) -> Option<usize>
     ensures { FieldsEnd s.now i n result }
 {
     let mut end = i;
-    for k in 0..n {
+    for _ in 0..n {
         end = cell_end(s, end)?;
     }
     Some(end)
