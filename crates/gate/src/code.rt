@@ -91,8 +91,8 @@ const OUTPUT_A: Format = Format {
     ..BARE
 };
 
-// By opcode, from 1.
-const FORMATS: [Format; 40] = [
+// By opcode, from 1. A static: a constant table would be made anew for each instruction.
+static FORMATS: [Format; 40] = [
     TRUTH_C, // 1 MkBool
     ANY_C, // 2 MkInt
     ANY_C, // 3 MkFloat
@@ -231,7 +231,7 @@ fn addresses_end(image: &[u8]) -> Option<usize>
     let rulesets = byte_at(image, 7);
     let size = half_at(image, 9);
     let mut at = 11;
-    for r in 0..rulesets {
+    for _ in 0..rulesets {
         let count = byte_at(image, at + 2);
         if size <= half_at(image, at) || !rules_ok(image, at + 3, count, size) {
             return None;

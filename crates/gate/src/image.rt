@@ -19,7 +19,8 @@ pub fn byte_at(m: &[u8], i: usize) -> usize
     m.get(i).map_or(0, |&b| usize::from(b))
 }
 
-// "Big-endian."
+// "Big-endian." Two functions and not one of a size: each is its definition, a half of two bytes, a number of two halves; and
+// past the end it stops, since i may be any number, and i + 1 too large.
 #[tactic(auto, using(crate::proofs::Rulesets::half_past), unfolding(hume::specs::Image::half))]
 pub(crate) fn half_at(m: &[u8], i: usize) -> usize
     ensures { Read (half m.now i) 65536 result }
@@ -68,7 +69,7 @@ fn rulesets_end(image: &[u8], n: usize) -> Option<usize>
     ensures small { IfSome result (λ end. end < 20000) }
 {
     let mut at = 11;
-    for r in 0..n {
+    for _ in 0..n {
         let count = byte_at(image, at + 2);
         if !(1..=16).contains(&count) {
             return None;

@@ -61,6 +61,7 @@ fn block_ok(h: u32, n: u32) -> bool
 
 // Where the cell that begins at i ends, if one does.
 #[cycle(cell_end_fields_end)]
+#[inline(always)]
 fn cell_end(s: &[u32], i: usize) -> Option<usize>
     ensures { CellEnds s.now i result }
 {
@@ -86,7 +87,7 @@ fn fields_end(s: &[u32], i: usize, n: u32) -> Option<usize>
     ensures { FieldsEnd s.now i n result }
 {
     let mut end = i;
-    for k in 0..n {
+    for _ in 0..n {
         end = cell_end(s, end)?;
     }
     Some(end)

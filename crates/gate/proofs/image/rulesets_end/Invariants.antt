@@ -4,6 +4,6 @@ use Rattle.gate.specs.Parts.{count_ok}
 use Rattle.gate.proofs.Rulesets.{Walked}
 use Rattle.gate.proofs.image.rulesets_end.Given as goal
 
-abbrev pub invariant-loop-r : goal.invariant-loop-r
-invariant-loop-r l =
-    record { walked : Walked l.image (count_ok (program l.image)) l.r l.at; low : l.at ≤ 11 + 513 * l.r }
+abbrev pub invariant-loop : goal.invariant-loop
+invariant-loop l =
+    record { walked : Walked l.image (count_ok (program l.image)) l.counter l.at; low : l.at ≤ 11 + 513 * l.counter }

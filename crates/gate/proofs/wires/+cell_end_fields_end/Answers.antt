@@ -41,16 +41,16 @@ cell_end-returns t c =
 pub fields_end-returns-in_err-end : goal.fields_end-returns-in_err-end
 fields_end-returns-in_err-end t c =
     rw c.from_residual.ensures
-    (c.loop-k.invariant.rest _ (bad_field _ _ _ (λ z. absurd (omega arith)) (rw c.in_err-end.was at c.cell_end.ensures)))
+    (c.loop.invariant.rest _ (bad_field _ _ _ (λ z. absurd (omega arith)) (rw c.in_err-end.was at c.cell_end.ensures)))
 
-pub fields_end-loop-k-preserved : goal.fields_end-loop-k-preserved
-fields_end-loop-k-preserved t c =
+pub fields_end-loop-preserved : goal.fields_end-loop-preserved
+fields_end-loop-preserved t c =
     let on = moved _ _ _ c.in_ok-end.ensures in
     record {
       on = omega arith;
       within = on.within;
-      rest = λ e f. c.loop-k.invariant.rest e (more_fields _ _ _ _ _ e (omega arith) c.in_ok-end.ensures f);
+      rest = λ e f. c.loop.invariant.rest e (more_fields _ _ _ _ _ e (omega arith) c.in_ok-end.ensures f);
     }
 
 pub fields_end-returns : goal.fields_end-returns
-fields_end-returns t c = c.loop-k.invariant.rest _ (no_field _ _ _ (omega arith) c.loop-k.invariant.within)
+fields_end-returns t c = c.loop.invariant.rest _ (no_field _ _ _ (omega arith) c.loop.invariant.within)

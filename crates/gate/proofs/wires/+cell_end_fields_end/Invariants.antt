@@ -10,13 +10,13 @@ abbrev pub decreases-fields_end : goal.decreases-fields_end
 decreases-fields_end l = 2 * (length l.s.now - l.i) + 1
 
 -- The cells that are still to come end where all of them do.
-abbrev pub invariant-fields_end-loop-k : goal.invariant-fields_end-loop-k
-invariant-fields_end-loop-k l =
+abbrev pub invariant-fields_end-loop : goal.invariant-fields_end-loop
+invariant-fields_end-loop l =
     record {
       on : l.i ≤ l.end;
       within : l.end ≤ length l.s;
-      rest : (e : Option ℕ) → FieldsEnd l.s l.end (l.n - l.k) e → FieldsEnd l.s l.i l.n e;
+      rest : (e : Option ℕ) → FieldsEnd l.s l.end (l.n - l.counter) e → FieldsEnd l.s l.i l.n e;
     }
 
-abbrev pub decreases-fields_end-loop-k : goal.decreases-fields_end-loop-k
-decreases-fields_end-loop-k l = l.n - l.k
+abbrev pub decreases-fields_end-loop : goal.decreases-fields_end-loop
+decreases-fields_end-loop l = l.n - l.counter
