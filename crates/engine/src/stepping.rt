@@ -9,7 +9,9 @@ ghost use Rattle.engine.specs.Outcomes.{cycle_table};
 ghost use Rattle.engine.specs.Ready.{Ready, Fixing};
 
 use super::image::{a_at, b_at, c_at, entry_of, opcode_at};
+use super::matching::Pattern;
 use super::regs::{Limits, Regs, Turn};
+use super::words::{BOOL, CONSTR, EXN, FLOAT, INT, TUPLE};
 use arith::canonical;
 
 // What is found once of an image: where its instructions begin, how many wires it has, and its handler with its entry.
@@ -83,39 +85,39 @@ impl Regs {
         let code = fixed.code;
         let op = opcode_at(image, code, pc);
         let cost = card[op - 1] as usize;
-        match op {
-            1 => self.mk_atom(lim, cost, 65536, c_at(image, code, pc), stack, heap),
-            2 => self.mk_atom(lim, cost, 131072, c_at(image, code, pc), stack, heap),
-            3 => self.mk_atom(
+        let pattern = match op {
+            1 => return self.mk_atom(lim, cost, BOOL, c_at(image, code, pc), stack, heap),
+            2 => return self.mk_atom(lim, cost, INT, c_at(image, code, pc), stack, heap),
+            3 => return self.mk_atom(
                 lim,
                 cost,
-                196608,
+                FLOAT,
                 canonical(c_at(image, code, pc)),
                 stack,
                 heap,
             ),
-            4 => self.mk_none(lim, cost, stack),
-            5 => self.mk_block(lim, cost, 262144, a_at(image, code, pc), stack, heap),
+            4 => return self.mk_none(lim, cost, stack),
+            5 => return self.mk_block(lim, cost, TUPLE, a_at(image, code, pc), stack, heap),
             6 => {
-                let h = (327680 + b_at(image, code, pc)) as u32;
-                self.mk_block(lim, cost, h, a_at(image, code, pc), stack, heap)
+                let h = CONSTR + b_at(image, code, pc) as u32;
+                return self.mk_block(lim, cost, h, a_at(image, code, pc), stack, heap);
             }
-            7 => self.push_nulls(lim, cost, a_at(image, code, pc), stack),
-            8 => self.pop(lim, cost, a_at(image, code, pc)),
-            9 => self.slide(lim, cost, a_at(image, code, pc), stack),
-            10 => self.copy(lim, cost, a_at(image, code, pc), stack),
-            11 => self.copy_arg(lim, cost, a_at(image, code, pc), stack),
-            12 => self.create_frame(lim, cost, a_at(image, code, pc), stack),
-            13 => self.push_var(lim, cost, a_at(image, code, pc), stack),
-            14 => self.make_var(lim, cost, a_at(image, code, pc), stack),
-            15 => self.goto(lim, cost, b_at(image, code, pc)),
-            16 => self.if_true(lim, cost, b_at(image, code, pc), stack, heap),
+            7 => return self.push_nulls(lim, cost, a_at(image, code, pc), stack),
+            8 => return self.pop(lim, cost, a_at(image, code, pc)),
+            9 => return self.slide(lim, cost, a_at(image, code, pc), stack),
+            10 => return self.copy(lim, cost, a_at(image, code, pc), stack),
+            11 => return self.copy_arg(lim, cost, a_at(image, code, pc), stack),
+            12 => return self.create_frame(lim, cost, a_at(image, code, pc), stack),
+            13 => return self.push_var(lim, cost, a_at(image, code, pc), stack),
+            14 => return self.make_var(lim, cost, a_at(image, code, pc), stack),
+            15 => return self.goto(lim, cost, b_at(image, code, pc)),
+            16 => return self.if_true(lim, cost, b_at(image, code, pc), stack, heap),
             17 => {
                 let a = a_at(image, code, pc);
-                self.call(lim, cost, a, entry_of(image, at, a), stack)
+                return self.call(lim, cost, a, entry_of(image, at, a), stack);
             }
-            18 => self.give_back(lim, cost, stack),
-            19 | 20 | 21 => self.apply(
+            18 => return self.give_back(lim, cost, stack),
+            19 | 20 | 21 => return self.apply(
                 lim,
                 cost,
                 op,
@@ -127,53 +129,51 @@ impl Regs {
                 stack,
                 heap,
             ),
-            22 => self.start_matches(lim, cost, image, at, orders, order),
-            23 => self.match_rule(lim, cost, image, at),
-            24 => self.matched_rule(lim, cost),
-            25 => self.match_none(lim, cost),
-            26 => self.match_available(lim, cost, fixed.inputs, image, at, orders, order, wires),
-            27 => {
-                let c = c_at(image, code, pc);
-                self.match_cell(
-                    lim, cost, false, 65536, c, image, at, orders, order, stack, heap,
-                )
-            }
-            28 => {
-                let c = c_at(image, code, pc);
-                self.match_cell(
-                    lim, cost, false, 131072, c, image, at, orders, order, stack, heap,
-                )
-            }
-            29 => {
-                let c = canonical(c_at(image, code, pc));
-                self.match_cell(
-                    lim, cost, false, 196608, c, image, at, orders, order, stack, heap,
-                )
-            }
-            30 => {
-                let a = a_at(image, code, pc) as u32;
-                self.match_cell(
-                    lim, cost, false, 262144, a, image, at, orders, order, stack, heap,
-                )
-            }
-            31 => {
-                let h = (327680 + b_at(image, code, pc)) as u32;
-                let a = a_at(image, code, pc) as u32;
-                self.match_cell(
-                    lim, cost, false, h, a, image, at, orders, order, stack, heap,
-                )
-            }
-            32 => {
-                let h = (393216 + b_at(image, code, pc)) as u32;
-                self.match_cell(lim, cost, true, h, 0, image, at, orders, order, stack, heap)
-            }
-            33 => self.unpack(lim, cost, stack, heap),
-            34 => self.reorder(lim, cost, image, at, orders, order),
-            35 => self.copy_input(lim, cost, a_at(image, code, pc), stack, heap, wires),
-            36 => self.consume(lim, cost, a_at(image, code, pc), wires),
-            37 => self.consume(lim, cost, a_at(image, code, pc), wires),
-            38 => self.check_outputs(lim, cost, fixed.inputs, fixed.outputs, stack, wires),
-            39 => self.write(
+            22 => return self.start_matches(lim, cost, image, at, orders, order),
+            23 => return self.match_rule(lim, cost, image, at),
+            24 => return self.matched_rule(lim, cost),
+            25 => return self.match_none(lim, cost),
+            26 => return self.match_available(
+                lim,
+                cost,
+                fixed.inputs,
+                image,
+                at,
+                orders,
+                order,
+                wires,
+            ),
+            27 => Pattern {
+                header: BOOL,
+                second: Some(c_at(image, code, pc)),
+            },
+            28 => Pattern {
+                header: INT,
+                second: Some(c_at(image, code, pc)),
+            },
+            29 => Pattern {
+                header: FLOAT,
+                second: Some(canonical(c_at(image, code, pc))),
+            },
+            30 => Pattern {
+                header: TUPLE,
+                second: Some(a_at(image, code, pc) as u32),
+            },
+            31 => Pattern {
+                header: CONSTR + b_at(image, code, pc) as u32,
+                second: Some(a_at(image, code, pc) as u32),
+            },
+            32 => Pattern {
+                header: EXN + b_at(image, code, pc) as u32,
+                second: None,
+            },
+            33 => return self.unpack(lim, cost, stack, heap),
+            34 => return self.reorder(lim, cost, image, at, orders, order),
+            35 => return self.copy_input(lim, cost, a_at(image, code, pc), stack, heap, wires),
+            36 => return self.consume(lim, cost, a_at(image, code, pc), wires),
+            37 => return self.consume(lim, cost, a_at(image, code, pc), wires),
+            38 => return self.check_outputs(lim, cost, fixed.inputs, fixed.outputs, stack, wires),
+            39 => return self.write(
                 lim,
                 cost,
                 a_at(image, code, pc),
@@ -182,7 +182,8 @@ impl Regs {
                 heap,
                 wires,
             ),
-            _ => self.schedule(lim, cost),
-        }
+            _ => return self.schedule(lim, cost),
+        };
+        self.match_cell(lim, cost, pattern, image, at, orders, order, stack, heap)
     }
 }
