@@ -6,12 +6,11 @@ ghost use Rattle.hume.specs.Instructions.{StartMatches, MatchRule, MatchedRule, 
 ghost use Rattle.laws.specs.Sizes.{Small};
 ghost use Rattle.laws.specs.Accepted.{OrderFits};
 ghost use Rattle.engine.specs.Turns.{Bears, Meets, priced, buffers};
-ghost use Rattle.engine.specs.Fits.{Fit, Refs, Imaged, Located};
-ghost use Rattle.engine.specs.Tables.{Placed};
+ghost use Rattle.engine.specs.Fits.{Fit, Refs};
 ghost use Rattle.engine.specs.Attempts.{Attempts, concludes, seeks};
 
 use super::Ending;
-use super::image::{count_of, rule_at};
+use super::image::Code;
 use super::regs::{Limits, Regs, Turn};
 use super::words::is_value;
 
@@ -60,36 +59,24 @@ fn move_last(order: &mut [u32], i: usize, j: usize)
 
 impl Regs {
     // "22 StartMatches: to the current ruleset's rule at order 0"
-    pub(crate) fn start_matches(
-        self,
-        lim: Limits,
-        cost: usize,
-        image: &[u8],
-        at: &[usize],
-        orders: &[usize],
-        order: &[u32],
-    ) -> Turn
+    pub(crate) fn start_matches(self, lim: Limits, cost: usize, code: &Code, order: &[u32]) -> Turn
         requires fit { Fit lim self }
-        requires imaged { Imaged image.now }
-        requires located { Located image.now at.now orders.now }
-        requires order_fits { OrderFits (program image.now) order.now }
-        requires rs_bound { self.rs < (program image.now).rulesets }
-        ensures { (st he wi : List ℕ) → Meets lim self (buffers st he wi order.now) (priced cost (StartMatches (program image.now))) result (buffers st he wi order.now) }
+        requires order_fits { OrderFits (program code.now.image.now) order.now }
+        requires rs_bound { self.rs < (program code.now.image.now).rulesets }
+        ensures { (st he wi : List ℕ) → Meets lim self (buffers st he wi order.now) (priced cost (StartMatches (program code.now.image.now))) result (buffers st he wi order.now) }
     {
         let mut next = self;
-        next.pc = rule_at(image, at, orders, order, self.rs, 0);
+        next.pc = code.rule_at(order, self.rs, 0);
         self.charge_time(lim, cost, next)
     }
 
     // "23 MatchRule: rp + 1, mp and inp 0, values dropped"; "7 MatchRule with rp at the count"
-    pub(crate) fn match_rule(self, lim: Limits, cost: usize, image: &[u8], at: &[usize]) -> Turn
+    pub(crate) fn match_rule(self, lim: Limits, cost: usize, code: &Code) -> Turn
         requires fit { Fit lim self }
-        requires imaged { Imaged image.now }
-        requires placed { Placed image.now at.now }
-        requires rs_bound { self.rs < (program image.now).rulesets }
-        ensures { (st he wi or : List ℕ) → Meets lim self (buffers st he wi or) (priced cost (MatchRule (program image.now))) result (buffers st he wi or) }
+        requires rs_bound { self.rs < (program code.now.image.now).rulesets }
+        ensures { (st he wi or : List ℕ) → Meets lim self (buffers st he wi or) (priced cost (MatchRule (program code.now.image.now))) result (buffers st he wi or) }
     {
-        let count = count_of(image, at, self.rs);
+        let count = code.count_of(self.rs);
         if count <= self.rp {
             return self.halt(Ending::Fault(7));
         }
@@ -171,17 +158,13 @@ impl Regs {
         lim: Limits,
         cost: usize,
         attempt: Attempt,
-        image: &[u8],
-        at: &[usize],
-        orders: &[usize],
+        code: &Code,
         order: &[u32],
     ) -> Turn
         requires fit { Fit lim self }
-        requires imaged { Imaged image.now }
-        requires located { Located image.now at.now orders.now }
-        requires order_fits { OrderFits (program image.now) order.now }
-        requires rs_bound { self.rs < (program image.now).rulesets }
-        ensures { (st he wi : List ℕ) → Meets lim self (buffers st he wi order.now) (priced cost (concludes (program image.now) attempt)) result (buffers st he wi order.now) }
+        requires order_fits { OrderFits (program code.now.image.now) order.now }
+        requires rs_bound { self.rs < (program code.now.image.now).rulesets }
+        ensures { (st he wi : List ℕ) → Meets lim self (buffers st he wi order.now) (priced cost (concludes (program code.now.image.now) attempt)) result (buffers st he wi order.now) }
     {
         let mut next = self;
         next.mp = attempt.mp;
@@ -190,11 +173,11 @@ impl Regs {
             next.pc = self.pc + 1;
             return self.charge_time(lim, cost, next);
         }
-        let count = count_of(image, at, self.rs);
+        let count = code.count_of(self.rs);
         if count <= self.rp {
             return self.halt(Ending::NoRule);
         }
-        next.pc = rule_at(image, at, orders, order, self.rs, self.rp);
+        next.pc = code.rule_at(order, self.rs, self.rp);
         self.charge_time(lim, cost, next)
     }
 
@@ -203,23 +186,18 @@ impl Regs {
         self,
         lim: Limits,
         cost: usize,
-        inputs: usize,
-        image: &[u8],
-        at: &[usize],
-        orders: &[usize],
+        code: &Code,
         order: &[u32],
         wires: &[u32],
     ) -> Turn
         requires fit { Fit lim self }
-        requires imaged { Imaged image.now }
-        requires located { Located image.now at.now orders.now }
-        requires order_fits { OrderFits (program image.now) order.now }
-        requires rs_bound { self.rs < (program image.now).rulesets }
-        requires inputs_value { (inputs ≡ (program image.now).inputs) × (65 * inputs ≤ length wires.now) }
-        ensures { (st he : List ℕ) → Meets lim self (buffers st he wires.now order.now) (priced cost (MatchAvailable (program image.now))) result (buffers st he wires.now order.now) }
+        requires order_fits { OrderFits (program code.now.image.now) order.now }
+        requires rs_bound { self.rs < (program code.now.image.now).rulesets }
+        requires wires_in_bounds { 65 * code.now.inputs ≤ length wires.now }
+        ensures { (st he : List ℕ) → Meets lim self (buffers st he wires.now order.now) (priced cost (MatchAvailable (program code.now.image.now))) result (buffers st he wires.now order.now) }
     {
-        match self.available(inputs, wires) {
-            Ok(attempt) => self.conclude(lim, cost, attempt, image, at, orders, order),
+        match self.available(code.inputs, wires) {
+            Ok(attempt) => self.conclude(lim, cost, attempt, code, order),
             Err(ending) => self.halt(ending),
         }
     }
@@ -230,53 +208,39 @@ impl Regs {
         lim: Limits,
         cost: usize,
         pattern: Pattern,
-        image: &[u8],
-        at: &[usize],
-        orders: &[usize],
+        code: &Code,
         order: &[u32],
         stack: &[u32],
         heap: &[u32],
     ) -> Turn
         requires fit { Fit lim self }
-        requires imaged { Imaged image.now }
-        requires located { Located image.now at.now orders.now }
-        requires order_fits { OrderFits (program image.now) order.now }
-        requires rs_bound { self.rs < (program image.now).rulesets }
+        requires order_fits { OrderFits (program code.now.image.now) order.now }
+        requires rs_bound { self.rs < (program code.now.image.now).rulesets }
         requires stack_in_bounds { (lim.stack ≤ length stack.now) × (lim.heap ≤ length heap.now) }
         requires refs { Refs self stack.now }
-        ensures { (wi : List ℕ) → Meets lim self (buffers stack.now heap.now wi order.now) (priced cost (matches (program image.now) (seeks pattern))) result (buffers stack.now heap.now wi order.now) }
+        ensures { (wi : List ℕ) → Meets lim self (buffers stack.now heap.now wi order.now) (priced cost (matches (program code.now.image.now) (seeks pattern))) result (buffers stack.now heap.now wi order.now) }
     {
         match self.compare(pattern, stack, heap) {
-            Ok(attempt) => self.conclude(lim, cost, attempt, image, at, orders, order),
+            Ok(attempt) => self.conclude(lim, cost, attempt, code, order),
             Err(ending) => self.halt(ending),
         }
     }
 
     // "34 Reorder: the rule at order position rp goes last, those after it move down one; with rp = count, nothing"
-    pub(crate) fn reorder(
-        self,
-        lim: Limits,
-        cost: usize,
-        image: &[u8],
-        at: &[usize],
-        orders: &[usize],
-        order: &mut [u32],
-    ) -> Turn
+    pub(crate) fn reorder(self, lim: Limits, cost: usize, code: &Code, order: &mut [u32]) -> Turn
         requires fit { Fit lim self }
-        requires imaged { Imaged image.now }
-        requires located { Located image.now at.now orders.now }
-        requires order_fits { OrderFits (program image.now) order.old }
-        requires rs_bound { self.rs < (program image.now).rulesets }
-        ensures { (st he wi : List ℕ) → Meets lim self (buffers st he wi order.old) (priced cost (Reorder (program image.now))) result (buffers st he wi order.new) }
+        requires order_fits { OrderFits (program code.now.image.now) order.old }
+        requires rs_bound { self.rs < (program code.now.image.now).rulesets }
+        ensures { (st he wi : List ℕ) → Meets lim self (buffers st he wi order.old) (priced cost (Reorder (program code.now.image.now))) result (buffers st he wi order.new) }
     {
         let rs = self.rs;
         let mut next = self;
         next.pc = self.pc + 1;
         let turn = self.charge_time(lim, cost, next);
         if turn.goes_on() {
-            let count = count_of(image, at, rs);
+            let count = code.count_of(rs);
             if self.rp < count {
-                let from = orders[rs];
+                let from = code.order_of(rs);
                 move_last(order, from + self.rp, from + count);
             }
         }
