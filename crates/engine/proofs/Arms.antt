@@ -2,7 +2,7 @@
 use mathlib.Core.Path.{◌≡◌, refl, sym, ap, ◌∙◌, subst}
 use mathlib.Core.Bool.{false}
 use mathlib.Core.List.{List, [], ◌∷◌}
-use Prim.Native.Nat.{ℕ, zero, suc, ◌-◌, ◌<◌}
+use Prim.Native.Nat.{ℕ, zero, suc, ◌-◌, ◌≤◌, ◌<◌}
 use native.Mathlib.Omega.{arith}
 use lib.ListN.{length, get_or}
 use Rattle.limits.specs.Machine.{Act}
@@ -10,6 +10,7 @@ use Rattle.hume.specs.Words.{Word}
 use Rattle.hume.specs.Image.{Program}
 use Rattle.hume.specs.State.{State, End, Deed}
 use Rattle.hume.specs.Machine.{instruction, deed, charged, price, acts, machine}
+use Rattle.laws.specs.Accepted.{CardFits}
 use Rattle.engine.specs.Turns.{core, Buffers, Turned, Meets, priced}
 use Rattle.engine.specs.declared.regs.Limits.{Limits}
 use Rattle.engine.specs.declared.regs.Regs.{Regs}
@@ -34,16 +35,16 @@ unfolding machine acts deed
 acts_as P card r ws hs wi or op a b c cost d o p q t e i =
     rw (← o, ← p, ← q, ← t, e) (ap (charged cost (core r ws hs wi or false)) i)
 
--- One arm of the step: the instruction at pc meets its contract, so the machine's act is met.
-pub arm : (P : Program) (card : List ℕ) {lim : Limits} {r : Regs} {b b' : Buffers} {q : Turn} (op x y z cost : ℕ) (d : State → Deed)
-    → op ≡ P.opcode r.pc → x ≡ P.arg_a r.pc → y ≡ P.arg_b r.pc → z ≡ P.arg_c r.pc
-    → price card op ≡ cost → ((s : State) → instruction op P x y z s ≡ d s) → Meets lim r b (priced cost d) q b'
-    → Meets lim r b (machine P card).act q b'
-arm P card {lim} {r} {b} {b'} {q} op x y z cost d o p s t e i m =
-    record {
+-- One arm of the step: the instruction at pc meets its contract at the card's price, so the machine's act is met.
+pub arm : (P : Program) (card : List ℕ) → CardFits card → {lim : Limits} {r : Regs} {b b' : Buffers} {q : Turn}
+    {op x y z : ℕ} {d : State → Deed} → (op ≡ P.opcode r.pc) × (1 ≤ op) × (op ≤ 40) → x ≡ P.arg_a r.pc → y ≡ P.arg_b r.pc
+    → z ≡ P.arg_c r.pc → ((s : State) → instruction op P x y z s ≡ d s)
+    → Meets lim r b (priced (get_or card (op - 1) 0) d) q b' → Meets lim r b (machine P card).act q b'
+arm P card f {lim} {r} {b} {b'} {q} {op} {x} {y} {z} {d} o p s t i m =
+    let e = price_is card op (get_or card (op - 1) 0) (omega (arith, o.1, o.2, f.long)) refl in record {
       each = λ ws hs h v u.
           subst (λ (k : Act State End). Turned lim r b k q b')
-          (sym (acts_as P card r ws hs b.wires b.order op x y z cost
-          (d (core r ws hs b.wires b.order false)) o p s t e (i (core r ws hs b.wires b.order false))))
+          (sym (acts_as P card r ws hs b.wires b.order op x y z _
+          (d (core r ws hs b.wires b.order false)) o.0 p s t e (i (core r ws hs b.wires b.order false))))
           (m.each ws hs h v u);
     }

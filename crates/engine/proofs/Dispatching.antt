@@ -1,6 +1,7 @@
 -- Facts for the arms of the step: which opcode an arm is of, and what its fields are.
+use Rattle.std.specs.Prelude.{Some, None}
 use mathlib.Core.Path.{◌≡◌, refl, sym, ap, ◌∙◌, subst}
-use mathlib.Core.Bool.{true, false}
+use mathlib.Core.Bool.{false}
 use mathlib.Core.List.{List}
 use Prim.Native.Nat.{ℕ, ◌+◌, ◌-◌, ◌≤◌, ◌<◌}
 use native.Mathlib.Omega.{arith}
@@ -8,7 +9,6 @@ use native.Mathlib.Decide.{ℕ_discrete}
 use lib.Dec.{T, ltb→lt}
 use Rattle.hume.specs.Numbers.{canonical}
 use lib.ListN.{get_or}
-use Rattle.hume.specs.Tests.{pick}
 use Rattle.hume.specs.Image.{Program}
 use Rattle.hume.specs.Refusals.{field_ok, format, format_of}
 use Rattle.hume.specs.State.{State, Deed}
@@ -19,6 +19,7 @@ use Rattle.engine.specs.Turns.{core, Buffers, Turned, Meets, priced}
 use Rattle.engine.specs.Blocks.{making}
 use Rattle.engine.specs.Outcomes.{Applies}
 use Rattle.engine.specs.Attempts.{seeks}
+use Rattle.engine.specs.declared.matching.Pattern.{Pattern}
 use Rattle.engine.specs.declared.regs.Limits.{Limits}
 use Rattle.engine.specs.declared.regs.Regs.{Regs}
 use Rattle.engine.specs.declared.regs.Turn.{Turn}
@@ -57,30 +58,38 @@ module _ (op : ℕ) (P : Program) (a b c : ℕ) (s : State) where
   unfolding MkCon
   makes_con e = op_6 op P a b c s e
 
-  pub matches_bool : op ≡ 27 → instruction op P a b c s ≡ matches P (seeks false 65536 c) s
-  unfolding MatchBool seeks pick
-  matches_bool e = op_27 op P a b c s e
+  pub matches_bool : {p : Pattern} → p ≡ record { header = 65536; second = Some c } → op ≡ 27
+      → instruction op P a b c s ≡ matches P (seeks p) s
+  unfolding MatchBool seeks
+  matches_bool f e = op_27 op P a b c s e ∙ ap (λ (p : Pattern). matches P (seeks p) s) (sym f)
 
-  pub matches_int : op ≡ 28 → instruction op P a b c s ≡ matches P (seeks false 131072 c) s
-  unfolding MatchInt seeks pick
-  matches_int e = op_28 op P a b c s e
+  pub matches_int : {p : Pattern} → p ≡ record { header = 131072; second = Some c } → op ≡ 28
+      → instruction op P a b c s ≡ matches P (seeks p) s
+  unfolding MatchInt seeks
+  matches_int f e = op_28 op P a b c s e ∙ ap (λ (p : Pattern). matches P (seeks p) s) (sym f)
 
-  pub matches_float : (v : ℕ) → v ≡ canonical c → op ≡ 29 → instruction op P a b c s ≡ matches P (seeks false 196608 v) s
-  unfolding MatchFloat seeks pick
-  matches_float v k e =
-      op_29 op P a b c s e ∙ ap (λ (x : ℕ). matches P (seeks false 196608 x) s) (sym k)
+  pub matches_float : {p : Pattern} (v : ℕ) → v ≡ canonical c → p ≡ record { header = 196608; second = Some v } → op ≡ 29
+      → instruction op P a b c s ≡ matches P (seeks p) s
+  unfolding MatchFloat seeks
+  matches_float v k f e =
+      op_29 op P a b c s e
+      ∙ ap (λ (x : ℕ). matches P (seeks (record { header = 196608; second = Some x })) s) (sym k)
+      ∙ ap (λ (p : Pattern). matches P (seeks p) s) (sym f)
 
-  pub matches_tuple : op ≡ 30 → instruction op P a b c s ≡ matches P (seeks false 262144 a) s
-  unfolding MatchTuple seeks pick
-  matches_tuple e = op_30 op P a b c s e
+  pub matches_tuple : {p : Pattern} → p ≡ record { header = 262144; second = Some a } → op ≡ 30
+      → instruction op P a b c s ≡ matches P (seeks p) s
+  unfolding MatchTuple seeks
+  matches_tuple f e = op_30 op P a b c s e ∙ ap (λ (p : Pattern). matches P (seeks p) s) (sym f)
 
-  pub matches_con : op ≡ 31 → instruction op P a b c s ≡ matches P (seeks false (327680 + b) a) s
-  unfolding MatchCon seeks pick
-  matches_con e = op_31 op P a b c s e
+  pub matches_con : {p : Pattern} → p ≡ record { header = 327680 + b; second = Some a } → op ≡ 31
+      → instruction op P a b c s ≡ matches P (seeks p) s
+  unfolding MatchCon seeks
+  matches_con f e = op_31 op P a b c s e ∙ ap (λ (p : Pattern). matches P (seeks p) s) (sym f)
 
-  pub matches_exn : op ≡ 32 → instruction op P a b c s ≡ matches P (seeks true (393216 + b) 0) s
-  unfolding MatchExn seeks pick
-  matches_exn e = op_32 op P a b c s e
+  pub matches_exn : {p : Pattern} → p ≡ record { header = 393216 + b; second = None } → op ≡ 32
+      → instruction op P a b c s ≡ matches P (seeks p) s
+  unfolding MatchExn seeks
+  matches_exn f e = op_32 op P a b c s e ∙ ap (λ (p : Pattern). matches P (seeks p) s) (sym f)
 
   pub consumes_maybe : op ≡ 37 → instruction op P a b c s ≡ Consume a s
   unfolding MaybeConsume

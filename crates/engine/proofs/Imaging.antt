@@ -1,14 +1,13 @@
 -- Laws of an accepted image: each place that is read lies inside it.
-use mathlib.Core.Path.{◌≡◌, sym, ap, ◌∙◌}
+use mathlib.Core.Path.{◌≡◌, refl, sym, ap, ◌∙◌}
 use mathlib.Core.List.{List}
 use Prim.Native.Nat.{ℕ, ◌+◌, ◌*◌, ◌≤◌, ◌<◌}
 use native.Mathlib.Omega.{arith}
 use lib.ListN.{length, get_or}
-use Rattle.hume.specs.Image.{program, byte, half, full, ruleset_at, code_at, order_at}
-use Rattle.laws.specs.Accepted.{OrderFits}
-use Rattle.laws.proofs.Orders.{stretches, order_room, order_small}
+use Rattle.hume.specs.Image.{program, byte, half, full, ruleset_at, code_at}
+use Rattle.laws.specs.Accepted.{Handler, absent, present}
+use Rattle.laws.proofs.Orders.{stretches}
 use Rattle.engine.specs.Fits.{Imaged, Located}
-use Rattle.engine.specs.Tables.{Placed}
 
 -- ---- the tables of the rulesets
 
@@ -47,6 +46,45 @@ module _ {m : List ℕ} (i : Imaged m) where
       let b : (program m).size ≤ 4096 = i.accepted.size in
       omega arith
 
+-- ---- what is found once
+
+module _ {m : List ℕ} (i : Imaged m) where
+  pub rulesets_most : get_or m 7 0 ≤ 32
+  unfolding byte program
+  rulesets_most = i.accepted.rulesets
+
+  pub handler_below : {h : ℕ} → h ≡ get_or m 8 0 → (h ≡ 255 → ⊥) → h < (program m).rulesets
+  unfolding byte program
+  handler_below {h} e n = by i.accepted.handler
+    where
+      by : Handler (program m) → h < (program m).rulesets
+      by (absent p) = absurd (n (e ∙ p))
+      by (present p) = omega (arith, e, p)
+
+  -- where the instructions begin
+  pub begins : {at orders : List ℕ} → Located m at orders → get_or at (get_or m 7 0) 0 ≡ code_at m 0
+  unfolding byte code_at
+  begins l = l.places (get_or m 7 0) (let x = rulesets_most in omega arith) ∙ omega arith
+
+  -- they fill the rest of the image
+  pub fills : {at orders : List ℕ} → Located m at orders
+      → get_or at (get_or m 7 0) 0 + 8 * (program m).size ≡ length m
+  unfolding code_at
+  fills l = let a = begins l in let b = i.long in omega arith
+
+-- the bytes that are read of it
+pub inputs_is : (m : List ℕ) → get_or m 5 0 ≡ (program m).inputs
+unfolding byte program
+inputs_is m = refl
+
+pub outputs_is : (m : List ℕ) → get_or m 6 0 ≡ (program m).outputs
+unfolding byte program
+outputs_is m = refl
+
+pub handler_is : (m : List ℕ) → (program m).handler ≡ get_or m 8 0
+unfolding byte program
+handler_is m = refl
+
 -- where the instruction k begins
 pub code_at_lem : (m : List ℕ) (k : ℕ) → code_at m k ≡ code_at m 0 + 8 * k
 unfolding code_at
@@ -54,11 +92,11 @@ code_at_lem m k = omega arith
 
 -- ---- what is read of a ruleset, by way of the table of places
 
-module _ {m at : List ℕ} (i : Imaged m) (p : Placed m at) (r : ℕ) (h : r < (program m).rulesets) where
+module _ {m at orders : List ℕ} (i : Imaged m) (l : Located m at orders) (r : ℕ) (h : r < (program m).rulesets) where
   placed_at : get_or at r 0 ≡ ruleset_at m r
   placed_at =
       let a : (program m).rulesets ≤ 32 = i.accepted.rulesets in
-      p.places r (omega arith)
+      l.places r (omega arith)
 
   pub place_room : get_or at r 0 + 3 + 2 * (program m).count r ≤ length m
   place_room = rw placed_at (table_room i r h)
@@ -96,27 +134,3 @@ module _ (m : List ℕ) (c k : ℕ) (e : c ≡ code_at m 0) where
   pub c_is : full m (c + 8 * k + 4) ≡ (program m).arg_c k
   unfolding program
   c_is = ap (λ (x : ℕ). full m (x + 4)) start
-
--- ---- the same, by way of the table of places
-
-pub placed_of : {m at orders : List ℕ} → Located m at orders → Placed m at
-placed_of l = record { long = l.at_long; places = l.places }
-
-module _ {m at orders order : List ℕ} (i : Imaged m) (l : Located m at orders) (f : OrderFits (program m) order) (r : ℕ)
-    (h : r < (program m).rulesets) where
-  pub orders_at : get_or orders r 0 ≡ order_at (program m) r
-  orders_at =
-      let a : (program m).rulesets ≤ 32 = i.accepted.rulesets in
-      l.order_places r (omega arith)
-
-  pub orders_room : get_or orders r 0 + (program m).count r ≤ length order
-  orders_room = rw orders_at (order_room f r h)
-
-  pub orders_small : (k : ℕ) → k < (program m).count r → get_or order (get_or orders r 0 + k) 0 < (program m).count r
-  orders_small k q = rw orders_at (order_small f r h k q)
-
-  pub ordered_rule : (k : ℕ) → k < (program m).count r
-      → half m (get_or at r 0 + 3 + 2 * get_or order (get_or orders r 0 + k) 0) ≡ (program m).rule r (get_or order (order_at (program m) r + k) 0)
-  ordered_rule k q =
-      rule_at_lem i (placed_of l) r h (get_or order (get_or orders r 0 + k) 0)
-      ∙ ap (λ (x : ℕ). (program m).rule r (get_or order (x + k) 0)) orders_at

@@ -16,7 +16,6 @@ use Rattle.engine.specs.declared.Ending.{Ending}
 use Rattle.engine.specs.declared.regs.Limits.{Limits}
 use Rattle.engine.specs.declared.regs.Regs.{Regs}
 use Rattle.engine.specs.declared.regs.Turn.{Turn}
-use Rattle.engine.specs.declared.stepping.Fixed.{Fixed}
 use Rattle.engine.proofs.Going.{Next, on, over, turned}
 use Rattle.engine.proofs.Standing.{ready}
 
@@ -32,14 +31,13 @@ pub record On (g : Given) (r : Regs) (q : Regs) (b : Buffers) : Type 0 where
   pub going : Going g q b
   pub less : q.left < r.left
 
-module _ {m card at orders : List ℕ} {lim : Limits} {f : Fixed} {s₀ : Regs} {b₀ : Buffers}
-    (u : Underway m card at orders lim f s₀ b₀) {s : Regs} {b : Buffers} (w : Going (calls m card u.limits u.lent) s b)
+module _ {m card : List ℕ} {lim : Limits} {s₀ : Regs} {b₀ : Buffers} (u : Underway m card lim s₀ b₀) {s : Regs} {b : Buffers} (w : Going (calls m card u.limits u.lent) s b)
   where
     -- the step may be taken
     pub may_step : length b.stack ≡ length b₀.stack → length b.heap ≡ length b₀.heap
-        → Ready m card at orders lim f s b
+        → Ready (program m) lim s b
     may_step ls lh =
-        ready (calls m card u.limits u.lent) u.allowed u.bounds w at orders f u.typed u.located u.fixing
+        ready (calls m card u.limits u.lent) u.allowed u.bounds w u.typed
         (ls ∙ u.stack_long) (lh ∙ u.heap_long)
 
     module _ (q : Turn) (b' : Buffers) (t : Meets lim s b (machine (program m) card).act q b') where

@@ -10,12 +10,11 @@ use lib.Dec.{T, leb, leb→le}
 use Rattle.limits.specs.Machine.{Run, fresh, Outcome, limited}
 use Rattle.limits.proofs.Kept.{limited_peak}
 use Rattle.hume.specs.Tests.{pick}
-use Rattle.hume.specs.Image.{Program, program, byte, code_at}
+use Rattle.hume.specs.Image.{Program, program, byte}
 use Rattle.hume.specs.Refusals.{length_ok}
 use Rattle.hume.specs.State.{State, locals, sp, hp}
 use Rattle.hume.specs.Machine.{start}
 use Rattle.hume.specs.Call.{Given, outcome, refusal}
-use Rattle.laws.specs.Accepted.{Handler, absent, present}
 use Rattle.laws.proofs.Tests.{and_left}
 use Rattle.reach.specs.Sound.{Sound, Ranged}
 use Rattle.reach.specs.Demands.{Allowed, Typed, unlimited, begins}
@@ -25,15 +24,12 @@ use Rattle.reach.proofs.Demands.{left}
 use Rattle.gate.specs.Parts.{LaidOut}
 use Rattle.engine.specs.Turns.{Bears, core, Buffers, buffers}
 use Rattle.engine.specs.Fits.{Located, Imaged}
-use Rattle.engine.specs.Tables.{Placed}
-use Rattle.engine.specs.Ready.{Fixing}
-use Rattle.engine.specs.declared.stepping.Fixed.{Fixed}
 use Rattle.engine.specs.Running.{run_of, Going, Over}
 use Rattle.engine.specs.Endings.{beginning}
 use mir.Syntax.{w8, w32}
 use mir.Val.{Fits}
 use Rattle.hume.specs.Call.{answer}
-use Rattle.laws.specs.Accepted.{Bytes, Words32}
+use Rattle.laws.specs.Accepted.{Bytes, Words32, CardFits}
 use Rattle.laws.proofs.Passed.{image_passed, call_passed}
 use Rattle.reach.proofs.Demands.{allowed, demand1}
 use Rattle.gate.specs.Verdicts.{number, given}
@@ -135,40 +131,6 @@ pub eleven : (m : List ℕ) → T (length_ok m) → 11 ≤ length m
 unfolding length_ok
 eleven m t = leb→le 11 (length m) (and_left (leb 11 (length m)) _ t)
 
--- ---- what is found once of an accepted image
-
-module _ {m : List ℕ} (i : Imaged m) where
-  pub image_byte : (k : ℕ) → get_or m k 0 < 256
-  unfolding byte
-  image_byte k = i.bytes.each k
-
-  pub rulesets_most : get_or m 7 0 ≤ 32
-  unfolding byte program
-  rulesets_most = i.accepted.rulesets
-
-  pub handler_below : (h : ℕ) → h ≡ (program m).handler → (h ≡ 255 → ⊥) → h < (program m).rulesets
-  handler_below h e n = by i.accepted.handler
-    where
-      by : Handler (program m) → h < (program m).rulesets
-      by (absent p) = absurd (n (e ∙ p))
-      by (present p) = omega (arith, e, p)
-
-  pub fixed : {at : List ℕ} (f : Fixed) → Placed m at → f.code ≡ get_or at (get_or m 7 0) 0 → f.inputs ≡ get_or m 5 0
-      → f.outputs ≡ get_or m 6 0 → f.handler ≡ get_or m 8 0 → ((f.handler ≡ 255 → ⊥) → (program m).entry f.handler ≡ f.entry)
-      → Fixing m f
-  unfolding byte program code_at
-  fixed {at} f p c n o h e =
-      record {
-        code = c ∙ p.places (get_or m 7 0) (let x = rulesets_most in omega arith) ∙ omega arith;
-        inputs = n;
-        outputs = o;
-        handled = record { handler_is = sym h; entry_is = e };
-      }
-
-  pub handler_is : (program m).handler ≡ get_or m 8 0
-  unfolding byte program
-  handler_is = refl
-
 -- ---- the whole call
 
 -- what the code knows of an accepted call: the numbers and slices are of their types
@@ -179,59 +141,67 @@ bytes_of f = record { each = λ i. (f i).fits }
 pub words_of : {l : List ℕ} → ((i : ℕ) → Fits w32 (get_or l i 0)) → Words32 l
 words_of f = record { each = λ i. (f i).fits }
 
-module _ (m card : List ℕ) (T S H : ℕ) (st he wi or : List ℕ) (e : refusal (given m card T S H st he wi or) ≡ 0)
-    (y : Bytes m) where
-  abbrev g : Given
-  g = given m card T S H st he wi or
-
+module _ (g : Given) (e : refusal g ≡ 0) (y : Bytes g.image) where
   abbrev b : Buffers
-  b = buffers st he wi or
+  b = buffers g.stack g.heap g.wires g.order
 
-  pub an_image : Imaged m
+  pub an_image : Imaged g.image
   an_image = let a = allowed g e in record { accepted = a.image; long = a.long; bytes = y }
 
-  pub long_enough : 11 ≤ length m
-  long_enough = eleven m (image_passed m (call_passed g e).image).length
+  pub long_enough : 11 ≤ length g.image
+  long_enough = eleven g.image (image_passed g.image (call_passed g e).image).length
 
-  pub some_ruleset : 0 < (program m).rulesets
+  pub card_fits : CardFits g.card
+  card_fits = (allowed g e).card
+
+  pub some_ruleset : 0 < (program g.image).rulesets
   some_ruleset = (allowed g e).image.some_ruleset
 
-  module _ (z : Words32 wi) (t : T < 2 ^ 32) where
+  module _ (z : Words32 g.wires) (t : g.limits.time < 2 ^ 32) where
     pub typed : Typed g
     typed = record { image = y; wires = z }
 
-    pub under : {at orders : List ℕ} {lim : Limits} {f : Fixed} {r : Regs} (pc : ℕ) → r ≡ beginning pc T
-        → pc ≡ (program m).entry 0 → lim.stack ≡ S → lim.heap ≡ H → LaidOut m at orders → Fixing m f
-        → Underway m card at orders lim f r b
-    under {at} {orders} {lim} {f} {r} pc q p s h l x =
-        record {
-          limits = record { time = T; stack = S; heap = H };
-          lent = b;
-          allowed = allowed g e;
-          typed = typed;
-          bounds = record { stack = s; heap = h; time = t };
-          located = laid_out l;
-          fixing = x;
-          going = subst (λ (k : Regs). Going g k b) (sym q) (begun g (allowed g e) typed pc p);
-          stack_long = refl;
-          heap_long = refl;
-        }
+    -- of an image and a card that are known to be the call's
+    module _ {n prices : List ℕ} (i : (n ≡ g.image) × (prices ≡ g.card)) {lim : Limits} {r : Regs} (pc : ℕ)
+        (q : r ≡ beginning pc g.limits.time) (p : pc ≡ (program n).entry 0) (s : lim.stack ≡ g.limits.stack)
+        (h : lim.heap ≡ g.limits.heap) where
+      under : Underway g.image g.card lim r b
+      under =
+          record {
+            limits = g.limits;
+            lent = b;
+            allowed = allowed g e;
+            typed = typed;
+            bounds = record { stack = s; heap = h; time = t };
+            going =
+                subst (λ (k : Regs). Going g k b) (sym q)
+                (begun g (allowed g e) typed pc (p ∙ ap (λ (x : List ℕ). (program x).entry 0) i.0));
+            stack_long = refl;
+            heap_long = refl;
+          }
 
-    -- what the loop leaves, of this call
-    pub ran_over : {at orders : List ℕ} {lim : Limits} {f : Fixed} {r : Regs} {last : Regs} {d : Ending} {b' : Buffers} (pc : ℕ)
-        → r ≡ beginning pc T → pc ≡ (program m).entry 0 → lim.stack ≡ S → lim.heap ≡ H → LaidOut m at orders → Fixing m f
-        → ((u : Underway m card at orders lim f r b) → Over (calls m card u.limits u.lent) last d b') → Over g last d b'
-    unfolding under
-    ran_over pc q p s h l x k = k (under pc q p s h l x)
+      pub underway : Underway n prices lim r b
+      underway =
+          subst (λ (x : List ℕ). Underway x prices lim r b) (sym i.0)
+          (subst (λ (x : List ℕ). Underway g.image x lim r b) (sym i.1) under)
+
+      -- what the loop leaves, of this call
+      pub ran_over : {last : Regs} {d : Ending} {b' : Buffers}
+          → ((u : Underway n prices lim r b) → Over (calls n prices u.limits u.lent) last d b') → Over g last d b'
+      unfolding under
+      ran_over {last} {d} {b'} k =
+          subst (λ (x : List ℕ). (u : Underway g.image x lim r b) → Over (calls g.image x u.limits u.lent) last d b') i.1
+          (subst (λ (x : List ℕ). (u : Underway x prices lim r b) → Over (calls x prices u.limits u.lent) last d b') i.0 k)
+          under
 
     pub last_small : {r : Regs} {d : Ending} {b' : Buffers} → Over g r d b' → Small g (allowed g e) typed r
     last_small o = end_small g (allowed g e) typed t o
 
     -- the report and the wiped areas are the answer
-    pub answered : (r : Regs) (d : Ending) (b' : Buffers) (st' he' : List ℕ) (q : Report) → Over g r d b'
-        → length b'.stack ≡ length st → length b'.heap ≡ length he → Wiped b'.stack r.sp st'
-        → Wiped b'.heap r.hp he' → q ≡ ending d r T → told q (buffers st' he' b'.wires b'.order) ≡ answer g
-    answered r d b' st' he' q o ls lh ws wh p =
+    pub answered : {r : Regs} {d : Ending} {b' : Buffers} {st' he' : List ℕ} {q : Report} → Over g r d b'
+        → length b'.stack ≡ length g.stack → length b'.heap ≡ length g.heap → Wiped b'.stack r.sp st'
+        → Wiped b'.heap r.hp he' → q ≡ ending d r g.limits.time → told q (buffers st' he' b'.wires b'.order) ≡ answer g
+    answered {r} {d} {b'} {st'} {he'} {q} o ls lh ws wh p =
         ap (λ (x : Report). told x (buffers st' he' b'.wires b'.order)) p
         ∙ told_over g r d b' st' he' o ls lh ws wh
         ∙ sym ((demand1 g).accepts e)

@@ -1,6 +1,5 @@
 -- Between two turns the plain facts hold that make every index and sum of the code safe.
 use mathlib.Core.Path.{◌≡◌, sym, ap, ◌∙◌, subst}
-use mathlib.Core.List.{List}
 use Prim.Native.Nat.{ℕ, ◌+◌, ◌-◌, ◌/◌, ◌%◌, ◌^◌, ◌≤◌, ◌<◌}
 use native.Mathlib.Omega.{arith}
 use lib.ListN.{length, get_or}
@@ -15,9 +14,8 @@ use Rattle.reach.specs.Sound.{Plain, is_null, is_ref, is_none, is_ret, is_rules,
 use Rattle.reach.specs.Demands.{Allowed, Typed}
 use Rattle.reach.proofs.Frames.{lp_le, word_free}
 use Rattle.engine.specs.Turns.{Buffers, Smalls}
-use Rattle.engine.specs.Fits.{Fit, Refs, Located}
-use Rattle.engine.specs.Ready.{Fixing, Ready}
-use Rattle.engine.specs.declared.stepping.Fixed.{Fixed}
+use Rattle.engine.specs.Fits.{Fit, Refs}
+use Rattle.engine.specs.Ready.{Ready}
 use Rattle.engine.proofs.Backing.{frames_framed}
 use Rattle.engine.proofs.Granted.{frames_blocks}
 use Rattle.engine.proofs.Writing.{top_sound}
@@ -110,10 +108,8 @@ module _ (g : Given) (a : Allowed g) {lim : Limits} (k : Bounds g lim) {r : Regs
       }
 
   -- a Tuple, Constr or Exn that the stack refers to has its fields below hp, the top value is held by the heap, and a frame has its link
-  pub ready : (at orders : List ℕ) (f : Fixed) → Typed g → Located g.image at orders → Fixing g.image f
-      → length b.stack ≡ length g.stack → length b.heap ≡ length g.heap
-      → Ready g.image g.card at orders lim f r b
-  ready at orders f y l x ls lh =
+  pub ready : Typed g → length b.stack ≡ length g.stack → length b.heap ≡ length g.heap → Ready (program g.image) lim r b
+  ready y ls lh =
       let s = w.sound in
       let small : Smalls w.ws = record { each = w.ranged.stack } in
       let smalls : Smalls w.hs = record { each = w.ranged.heap } in
@@ -121,10 +117,6 @@ module _ (g : Given) (a : Allowed g) {lim : Limits} (k : Bounds g lim) {r : Regs
         fit = fits;
         stack_room = omega (arith, k.stack, a.stack_room, ls);
         heap_room = omega (arith, k.heap, a.heap_room, lh);
-        imaged = record { accepted = a.image; long = a.long; bytes = y.image };
-        located = l;
-        fixing = x;
-        prices = a.card;
         pc = s.pc;
         rs = s.rs;
         refs = refs;

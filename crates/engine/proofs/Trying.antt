@@ -1,12 +1,13 @@
 -- What matching leads to.
+use Rattle.std.specs.Prelude.{Option, Some, None, Result, Ok, Err}
 use mathlib.Core.Path.{◌≡◌, refl, sym, ap, ◌∙◌, subst}
 use mathlib.Core.Bool.{Bool, true, false, not}
 use mathlib.Core.List.{List, [], ◌∷◌, ◌++◌, append-nil, append_assoc}
 use Prim.Native.Nat.{ℕ, suc, ◌+◌, ◌-◌, ◌*◌, ◌/◌, ◌%◌, ◌^◌, ◌≤◌, ◌<◌}
 use native.Mathlib.Omega.{arith}
 use lib.Dec.{T, leb, ltb, eqb, leb→le, le→leb, ltb→lt, lt→ltb}
-use lib.ListN.{length, get_or, take, drop, set, length-append, length-drop, take-append-drop}
-use lib.Seq.{length-take-le, take-suc, drop-cons, set_at, get_or-drop, get_or-append-add}
+use lib.ListN.{length, get_or, take, drop, set, length-drop}
+use lib.Seq.{paste, length_paste_head, length-take-le, drop-cons, set_at}
 use borrow.Author.Tests.{eq-eqb, ne_eqb}
 use Rattle.limits.specs.Machine.{ends, goes}
 use Rattle.hume.specs.Tests.{pick}
@@ -22,12 +23,14 @@ use Rattle.laws.proofs.Tests.{of_true, pick_true, pick_false}
 use Rattle.laws.proofs.Deeds.{need_yes, need_no}
 use Rattle.engine.specs.Fits.{Fit}
 use Rattle.engine.specs.Turns.{Bears, plain, core, Holds, halt, Buffers, Turned, Meets, priced}
-use Rattle.engine.specs.Attempts.{seeks, tallied, concludes, Attempted, faulty, tries, Attempts}
+use Rattle.engine.specs.Attempts.{seeks_cell, seeks, tallied, concludes, Attempted, faulty, tries, Attempts}
+use Rattle.engine.specs.declared.Ending.{Ending}
 use Rattle.engine.specs.declared.Ending.TheVariants as ending
 use Rattle.engine.specs.declared.regs.Limits.{Limits}
 use Rattle.engine.specs.declared.regs.Regs.{Regs}
 use Rattle.engine.specs.declared.regs.Turn.{Turn}
 use Rattle.engine.specs.declared.matching.Attempt.{Attempt}
+use Rattle.engine.specs.declared.matching.Pattern.{Pattern}
 use Rattle.engine.proofs.After.{after}
 use Rattle.engine.proofs.Turning.{Leads, Borne, stops, lead_still, turned_as}
 use Rattle.engine.proofs.Areas.{locals_take, bears_take}
@@ -36,39 +39,39 @@ use Rattle.engine.proofs.WordKinds.{cell_no, cell_is_lem, second_is}
 -- ---- the cell that a word refers to
 
 module _ {n : ℕ} {v : Word} (e : n ≡ bits v) (s : Small v) {he : List ℕ} {hs : List Word} (h : Bears he hs)
-    (inside : n / 2 ^ 28 ≡ 1 → n % 2 ^ 28 + 2 ≤ length hs) (any : Bool) (k x : ℕ) where
+    (inside : n / 2 ^ 28 ≡ 1 → n % 2 ^ 28 + 2 ≤ length hs) (p : Pattern) where
   -- no cell at all, or one with another header
-  seeks_none : is_cell hs v k ≡ false → false ≡ seeks any k x hs v
-  unfolding seeks cell_is pick
-  seeks_none q = rw q (by any)
+  seeks_none : is_cell hs v p.header ≡ false → false ≡ seeks p hs v
+  unfolding seeks cell_is
+  seeks_none q = by p.second
     where
-      by : (t : Bool) → false ≡ pick t false false
-      by true = refl
-      by false = refl
+      by : (o : Option ℕ) → false ≡ seeks_cell p.header o hs v
+      by None = sym q
+      by (Some x) = rw q refl
 
-  pub seeks_other : (n / 2 ^ 28 ≡ 1 → ⊥) → false ≡ seeks any k x hs v
-  seeks_other q = seeks_none (cell_no e s hs k q)
+  pub seeks_other : (n / 2 ^ 28 ≡ 1 → ⊥) → false ≡ seeks p hs v
+  seeks_other q = seeks_none (cell_no e s hs p.header q)
 
-  cell_here : n / 2 ^ 28 ≡ 1 → is_cell hs v k ≡ eqb (get_or he (n % 2 ^ 28) 0) k
+  cell_here : n / 2 ^ 28 ≡ 1 → is_cell hs v p.header ≡ eqb (get_or he (n % 2 ^ 28) 0) p.header
   cell_here q =
       let l : n % 2 ^ 28 + 2 ≤ length hs = inside q in
-      cell_is_lem e s k q h (omega arith)
+      cell_is_lem e s p.header q h (omega arith)
 
-  pub seeks_header : n / 2 ^ 28 ≡ 1 → (get_or he (n % 2 ^ 28) 0 ≡ k → ⊥) → false ≡ seeks any k x hs v
+  pub seeks_header : n / 2 ^ 28 ≡ 1 → (get_or he (n % 2 ^ 28) 0 ≡ p.header → ⊥) → false ≡ seeks p hs v
   seeks_header q d = seeks_none (cell_here q ∙ ne_eqb _ _ d)
 
   -- MatchExn asks for no more
-  pub seeks_any : n / 2 ^ 28 ≡ 1 → get_or he (n % 2 ^ 28) 0 ≡ k → any ≡ true → true ≡ seeks any k x hs v
+  pub seeks_any : n / 2 ^ 28 ≡ 1 → get_or he (n % 2 ^ 28) 0 ≡ p.header → p.second ≡ None → true ≡ seeks p hs v
   unfolding seeks
-  seeks_any q d o = sym (pick_true any _ _ (of_true o) ∙ cell_here q ∙ eq-eqb _ _ d)
+  seeks_any q d o = rw o (sym (cell_here q ∙ eq-eqb _ _ d))
 
-  pub seeks_second : n / 2 ^ 28 ≡ 1 → get_or he (n % 2 ^ 28) 0 ≡ k → any ≡ false
-      → eqb (get_or he (n % 2 ^ 28 + 1) 0) x ≡ seeks any k x hs v
+  pub seeks_second : (x : ℕ) → n / 2 ^ 28 ≡ 1 → get_or he (n % 2 ^ 28) 0 ≡ p.header → p.second ≡ Some x
+      → eqb (get_or he (n % 2 ^ 28 + 1) 0) x ≡ seeks p hs v
   unfolding seeks cell_is
-  seeks_second q d o =
+  seeks_second x q d o =
       let l : n % 2 ^ 28 + 2 ≤ length hs = inside q in
       let z : second hs v ≡ get_or he (n % 2 ^ 28 + 1) 0 = second_is e s h (omega arith) in
-      sym (pick_false any _ _ (λ t. subst T o t) ∙ rw (cell_here q, eq-eqb _ _ d, z))
+      rw o (sym (rw (cell_here q, eq-eqb _ _ d, z) refl))
 
 -- ---- the registers after an instruction that matches
 
@@ -109,30 +112,30 @@ module _ {r : Regs} {st he : List ℕ} {ws hs : List Word} (h : Holds r st he ws
   none_leads cost = routes cost (r.pc + 1) r.rp (r.mp + 1) (r.inp + 1) refl
 
   -- a match that succeeds,
-  pub hit_leads : (P : Program) (cost mp inp : ℕ) (hit : Bool) → hit ≡ true
-      → Leads cost (priced cost (concludes P hit mp inp) s) (routed r (r.pc + 1) r.rp mp inp) ws hs wi or
+  pub hit_leads : (P : Program) (cost : ℕ) (t : Attempt) → t.hit ≡ true
+      → Leads cost (priced cost (concludes P t) s) (routed r (r.pc + 1) r.rp t.mp t.inp) ws hs wi or
   unfolding concludes
-  hit_leads P cost mp inp hit t = routes cost (r.pc + 1) r.rp mp inp (pick_true hit _ _ (of_true t))
+  hit_leads P cost t e = routes cost (r.pc + 1) r.rp t.mp t.inp (pick_true t.hit _ _ (of_true e))
 
   -- one that fails,
-  pub miss_leads : (P : Program) (cost to mp inp : ℕ) (hit : Bool) → hit ≡ false → r.rp < P.count r.rs
+  pub miss_leads : (P : Program) (cost to : ℕ) (t : Attempt) → t.hit ≡ false → r.rp < P.count r.rs
       → to ≡ P.rule r.rs (get_or or (order_at P r.rs + r.rp) 0)
-      → Leads cost (priced cost (concludes P hit mp inp) s) (routed r to r.rp mp inp) ws hs wi or
+      → Leads cost (priced cost (concludes P t) s) (routed r to r.rp t.mp t.inp) ws hs wi or
   unfolding concludes fails rule_at rule_count
-  miss_leads P cost to mp inp hit t k e =
-      routes cost to r.rp mp inp
-      (pick_false hit _ _ (λ u. subst T t u)
+  miss_leads P cost to t m k e =
+      routes cost to r.rp t.mp t.inp
+      (pick_false t.hit _ _ (λ u. subst T m u)
       ∙ pick_true (ltb r.rp (P.count r.rs)) _ (ends no_rule) (lt→ltb _ _ k)
-      ∙ ap (λ (x : ℕ). turns s (at x (tallied (plain r) mp inp))) (sym e))
+      ∙ ap (λ (x : ℕ). turns s (at x (tallied (plain r) t.mp t.inp))) (sym e))
 
   -- and one after which no rule is left
-  pub miss_ends : (P : Program) (cost mp inp : ℕ) (hit : Bool) {lim : Limits} {b : Buffers} {q : Turn} → hit ≡ false
+  pub miss_ends : (P : Program) (cost : ℕ) (t : Attempt) {lim : Limits} {b : Buffers} {q : Turn} → t.hit ≡ false
       → P.count r.rs ≤ r.rp → q ≡ halt r ending.NoRule
-      → Turned lim r b (priced cost (concludes P hit mp inp) s) q b
+      → Turned lim r b (priced cost (concludes P t) s) q b
   unfolding concludes fails rule_at rule_count
-  miss_ends P cost mp inp hit {lim} {b} {q} t k e =
+  miss_ends P cost t {lim} {b} {q} m k e =
       stops cost lim r b s no_rule
-      (pick_false hit _ _ (λ u. subst T t u)
+      (pick_false t.hit _ _ (λ u. subst T m u)
       ∙ pick_false (ltb r.rp (P.count r.rs)) _ (ends no_rule)
       (λ t. let l : r.rp < P.count r.rs = ltb→lt _ _ t in absurd (omega arith)))
       e
@@ -197,7 +200,7 @@ module _ {r : Regs} {st he : List ℕ} {ws hs : List Word} (h : Holds r st he ws
 
     -- or it is tried
     pub available_tries : r.inp < P.inputs
-        → MatchAvailable P s ≡ concludes P (not (eqb (get_or wi (65 * r.inp) 0) 0)) r.mp (r.inp + 1) s
+        → MatchAvailable P s ≡ concludes P (record { hit = not (eqb (get_or wi (65 * r.inp) 0) 0); mp = r.mp; inp = r.inp + 1 }) s
     unfolding MatchAvailable is_empty wire_count concludes pick
     available_tries k =
         let z : r.mp + 0 ≡ r.mp = omega arith in
@@ -228,7 +231,7 @@ module _ {r : Regs} {st he : List ℕ} {ws hs : List Word} (h : Holds r st he ws
       -- or it is compared
       pub compare_tries : (hit : Bool) → 5 + r.mp ≤ r.fp → is_value (get_or ws (r.fp - (5 + r.mp)) null) ≡ true
           → hit ≡ test hs (get_or ws (r.fp - (5 + r.mp)) null)
-          → matches P test s ≡ concludes P hit (r.mp + 1) r.inp s
+          → matches P test s ≡ concludes P (record { hit = hit; mp = r.mp + 1; inp = r.inp }) s
       unfolding matches has_argument argument concludes
       compare_tries hit k v e =
           let z : r.inp + 0 ≡ r.inp = omega arith in
@@ -243,90 +246,48 @@ module _ {r : Regs} {st he : List ℕ} {ws hs : List Word} (h : Holds r st he ws
 
 -- ---- what an attempt comes to
 
-module _ {P : Program} {act : State → Deed} {t : Attempt} {lim : Limits} {r : Regs} {b : Buffers} {q : Turn} (cost : ℕ)
-    (a : Attempts P r b act t) where
-  pub attempt_faults : (t.fault ≡ 0 → ⊥) → q ≡ halt r (ending.Fault t.fault) → Meets lim r b (priced cost act) q b
-  attempt_faults k e =
+module _ {P : Program} {act : State → Deed} {o : Result Attempt Ending} {lim : Limits} {r : Regs} {b : Buffers} {q : Turn}
+    (cost : ℕ) (a : Attempts P r b act o) where
+  pub attempt_faults : (e : Ending) → o ≡ Err e → q ≡ halt r e → Meets lim r b (priced cost act) q b
+  attempt_faults e f g =
       record { each = λ ws hs h m n. by (core r ws hs b.wires b.order false) (a.each ws hs h m n) }
     where
-      by : (s : State) {d : Deed} → Attempted P s d t → Turned lim r b (charged cost s d) q b
-      by s (faulty n p) = stops cost lim r b s (fault t.fault) p e
-      by s (tries z p) = absurd (k z)
+      by : (s : State) {d : Deed} → Attempted P s d o → Turned lim r b (charged cost s d) q b
+      by s (faulty k i p) = stops cost lim r b s (fault k) p (g ∙ ap (halt r) (let s = sym f ∙ i in cc))
+      by s (tries t i p) = absurd (let s = sym i ∙ f in cc)
 
-  pub attempt_goes : {b' : Buffers} → t.fault ≡ 0
-      → Meets lim r b (priced cost (concludes P t.hit t.mp t.inp)) q b' → Meets lim r b (priced cost act) q b'
-  attempt_goes {b'} k g =
+  pub attempt_goes : {b' : Buffers} (t : Attempt) → o ≡ Ok t → Meets lim r b (priced cost (concludes P t)) q b'
+      → Meets lim r b (priced cost act) q b'
+  attempt_goes {b'} t f g =
       record {
         each = λ ws hs h m n. by (core r ws hs b.wires b.order false) (a.each ws hs h m n) (g.each ws hs h m n);
       }
     where
-      by : (s : State) {d : Deed} → Attempted P s d t
-          → Turned lim r b (charged cost s (concludes P t.hit t.mp t.inp s)) q b'
+      by : (s : State) {d : Deed} → Attempted P s d o → Turned lim r b (charged cost s (concludes P t s)) q b'
           → Turned lim r b (charged cost s d) q b'
-      by s (faulty n p) e = absurd (n k)
-      by s (tries z p) e = turned_as cost s p e
+      by s (faulty k i p) e = absurd (let s = sym f ∙ i in cc)
+      by s (tries u i p) e = turned_as cost s (p ∙ ap (λ (x : Attempt). concludes P x s) (let s = sym i ∙ f in cc)) e
 
 -- ---- a word moved last
 
-module _ (l : List ℕ) (i : ℕ) where
-  -- the words before k once those from i + 1 to k have moved down one
-  abbrev front : ℕ → List ℕ
-  front k = take i l ++ take (k - i) (drop (i + 1) l)
-
-  abbrev pub shifted : ℕ → List ℕ
-  shifted k = front k ++ drop k l
-
-  pub shift_none : l ≡ shifted i
-  shift_none = let z : i - i ≡ 0 = omega arith in rw (z, append-nil) (sym (take-append-drop i l))
-
-  module _ (k : ℕ) (h : i ≤ k) (m : k < length l) where
-    front_length : length (front k) ≡ k
-    front_length =
-        let a : length (take i l) ≡ i = length-take-le i l (omega arith) in
-        let b : length (drop (i + 1) l) ≡ length l - (i + 1) = length-drop (i + 1) l in
-        let c : length (take (k - i) (drop (i + 1) l)) ≡ k - i = length-take-le (k - i) (drop (i + 1) l) (omega arith) in
-        length-append (take i l) (take (k - i) (drop (i + 1) l)) ∙ omega arith
-
-    shift_set : (v : ℕ) → set (shifted k) k v ≡ front k ++ v ∷ drop (suc k) l
-    shift_set v =
-        ap (λ (x : List ℕ). set (front k ++ x) k v) (drop-cons l k 0 m)
-        ∙ set_at (front k) (get_or l k 0) (drop (suc k) l) v k front_length
-
-    shift_get : get_or (shifted k) (k + 1) 0 ≡ get_or l (k + 1) 0
-    shift_get =
-        ap (λ (x : ℕ). get_or (shifted k) (x + 1) 0) (sym front_length)
-        ∙ get_or-append-add (front k) (drop k l) 1 0
-        ∙ get_or-drop k l 1 0
-
-    pub shift_more : k + 1 < length l → set (shifted k) k (get_or (shifted k) (k + 1) 0) ≡ shifted (k + 1)
-    shift_more q =
-        let d : List ℕ = drop (i + 1) l in
-        let b : length d ≡ length l - (i + 1) = length-drop (i + 1) l in
-        let y : suc (k - i) ≡ k + 1 - i = omega arith in
-        let z : suc k ≡ k + 1 = omega arith in
-        let u : i + 1 + (k - i) ≡ k + 1 = omega arith in
-        let e : get_or d (k - i) 0 ≡ get_or l (k + 1) 0 =
-        get_or-drop (i + 1) l (k - i) 0 ∙ ap (λ (x : ℕ). get_or l x 0) u in
-        let t : take (k + 1 - i) d ≡ take (k - i) d ++ get_or l (k + 1) 0 ∷ [] =
-        ap (λ (x : ℕ). take x d) (sym y)
-        ∙ take-suc d (k - i) 0 (omega arith)
-        ∙ ap (λ (x : ℕ). take (k - i) d ++ x ∷ []) e in
-        shift_set (get_or (shifted k) (k + 1) 0)
-        ∙ ap (λ (x : ℕ). front k ++ x ∷ drop (suc k) l) shift_get
-        ∙ ap (λ (x : ℕ). front k ++ get_or l (k + 1) 0 ∷ drop x l) z
-        ∙ sym
-        (ap (λ (x : List ℕ). (take i l ++ x) ++ drop (k + 1) l) t
-        ∙ simp append_assoc)
-
-    pub shift_last : (j : ℕ) → j ≡ k + 1 → set (shifted k) k (get_or l i 0) ≡ move_last l i j
-    unfolding move_last
-    shift_last j q =
-        let z : suc k ≡ j = omega arith in
-        let y : k - i ≡ j - (i + 1) = omega arith in
-        shift_set (get_or l i 0)
-        ∙ ap (λ (x : ℕ). front k ++ get_or l i 0 ∷ drop x l) z
-        ∙ append_assoc (take i l) (take (k - i) (drop (i + 1) l)) (get_or l i 0 ∷ drop j l)
-        ∙ ap (λ (x : ℕ). take i l ++ (take x (drop (i + 1) l) ++ get_or l i 0 ∷ drop j l)) y
+-- those between moved down one, and the first put last
+pub moved_last : (l : List ℕ) (i j : ℕ) → i < j → j ≤ length l
+    → set (paste l i (drop (i + 1) l) (j - (i + 1))) (j - 1) (get_or l i 0) ≡ move_last l i j
+unfolding move_last
+moved_last l i j a b =
+    let n : ℕ = j - (i + 1) in
+    let v : ℕ = get_or l i 0 in
+    let s : List ℕ = drop (i + 1) l in
+    let front : List ℕ = take i l ++ take n s in
+    let d : length s ≡ length l - (i + 1) = length-drop (i + 1) l in
+    let long : length front ≡ i + n = length_paste_head l i s n (omega arith) (omega (arith, d)) in
+    let k : j - 1 ≡ i + n = omega arith in
+    let m : suc (i + n) ≡ j = omega arith in
+    ap (λ (x : ℕ). set (front ++ drop (i + n) l) x v) k
+    ∙ ap (λ (x : List ℕ). set (front ++ x) (i + n) v) (drop-cons l (i + n) 0 (omega arith))
+    ∙ set_at front (get_or l (i + n) 0) (drop (suc (i + n)) l) v (i + n) long
+    ∙ ap (λ (x : ℕ). front ++ v ∷ drop x l) m
+    ∙ append_assoc (take i l) (take n s) (v ∷ drop j l)
 
 -- "34 Reorder"
 module _ {r : Regs} {st he : List ℕ} {ws hs : List Word} (h : Holds r st he ws hs) (wi or : List ℕ) (P : Program) where

@@ -1,7 +1,10 @@
 -- Plain facts of the registers between turns, from which every index and sum of the code is in range.
 use Rattle.std.specs.Prelude.{◌≡◌, List, ℕ, ◌+◌, ◌/◌, ◌%◌, ◌^◌, ◌≤◌, ◌<◌, length, get_or}
-use Rattle.hume.specs.Image.{program, code_at, ruleset_at, order_at}
-use Rattle.laws.specs.Accepted.{Bytes, Accepted}
+use Rattle.std.specs.Coded.{le_prop}
+use native.Mathlib.Nat.{ℕ_set, lt_irrefl, lt_of_lt_of_le, le_trans, le-add_right}
+use mathlib.Core.Path.{ap, subst}
+use Rattle.hume.specs.Image.{Program, program, code_at, ruleset_at, order_at}
+use Rattle.laws.specs.Accepted.{Handler, absent, present, Bytes, Accepted}
 use Rattle.engine.specs.declared.regs.Limits.{Limits}
 use Rattle.engine.specs.declared.regs.Regs.{Regs}
 
@@ -30,6 +33,17 @@ pub record Imaged (m : List ℕ) : Type 0 where
   pub accepted : Accepted (program m)
   pub long : code_at m (program m).size ≡ length m
   pub bytes : Bytes m
+
+not_both : (P : Program) → P.rulesets ≤ 32 → P.handler ≡ 255 → P.handler < P.rulesets → ⊥
+not_both P m p q =
+    lt_irrefl 255 (lt_of_lt_of_le (subst (λ (h : ℕ). h < P.rulesets) p q) (le_trans m (le-add_right 32 223)))
+
+-- a program of at most 32 rulesets has a handler in one way at most, so an image is accepted in one way
+pub Handler-prop : (P : Program) → P.rulesets ≤ 32 → IsProp (Handler P)
+Handler-prop P m (absent p) (absent q) = ap absent (ℕ_set _ _ p q)
+Handler-prop P m (present p) (present q) = ap present (le_prop p q)
+Handler-prop P m (absent p) (present q) = absurd (not_both P m p q)
+Handler-prop P m (present p) (absent q) = absurd (not_both P m q p)
 
 -- where each ruleset's table begins, and its order
 pub record Located (m : List ℕ) (at orders : List ℕ) : Type 0 where

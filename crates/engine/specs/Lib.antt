@@ -6,7 +6,6 @@ pub mod Endings
 pub mod Ready
 pub mod Underway
 pub mod Frames
-pub mod Tables
 pub mod Attempts
 pub mod Copies
 pub mod Blocks

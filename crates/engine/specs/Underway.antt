@@ -4,12 +4,9 @@ use Rattle.limits.specs.Machine.{Limits as Bound}
 use Rattle.hume.specs.Call.{Given}
 use Rattle.reach.specs.Demands.{Allowed, Typed}
 use Rattle.engine.specs.Turns.{Buffers}
-use Rattle.engine.specs.Fits.{Located}
-use Rattle.engine.specs.Ready.{Fixing}
 use Rattle.engine.specs.Running.{Bounds, Going}
 use Rattle.engine.specs.declared.regs.Limits.{Limits}
 use Rattle.engine.specs.declared.regs.Regs.{Regs}
-use Rattle.engine.specs.declared.stepping.Fixed.{Fixed}
 
 -- a call of this image and card, with the buffers as they were lent
 abbrev pub calls : List ℕ → List ℕ → Bound → Buffers → Given
@@ -24,14 +21,12 @@ calls m card L b =
       order = b.order;
     }
 
-pub record Underway (m card at orders : List ℕ) (lim : Limits) (f : Fixed) (r : Regs) (b : Buffers) : Type 0 where
+pub record Underway (m card : List ℕ) (lim : Limits) (r : Regs) (b : Buffers) : Type 0 where
   pub limits : Bound
   pub lent : Buffers
   pub allowed : Allowed (calls m card limits lent)
   pub typed : Typed (calls m card limits lent)
   pub bounds : Bounds (calls m card limits lent) lim
-  pub located : Located m at orders
-  pub fixing : Fixing m f
   pub going : Going (calls m card limits lent) r b
   pub stack_long : length b.stack ≡ length lent.stack
   pub heap_long : length b.heap ≡ length lent.heap

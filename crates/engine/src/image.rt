@@ -1,9 +1,37 @@
-// An accepted image, read where it lies: what is known of it makes every test of an index unnecessary.
-ghost use Rattle.std.specs.Prelude.{◌≡◌, ◌+◌, ◌≤◌, ◌<◌, length, get_or};
+// An accepted image, read where it lies, with what is found once of it: what is known of it makes every test of an index
+// unnecessary.
+ghost use Rattle.std.specs.Prelude.{◌≡◌, ℕ, ◌+◌, ◌*◌, ◌≤◌, ◌<◌, length, get_or};
+ghost use Rattle.std.proofs.Props.{props};
 ghost use Rattle.hume.specs.Image.{program, code_at, order_at, half as half_of, full as full_of};
-ghost use Rattle.laws.specs.Accepted.{OrderFits};
-ghost use Rattle.engine.specs.Fits.{Imaged, Located};
-ghost use Rattle.engine.specs.Tables.{Placed};
+ghost use Rattle.laws.specs.Accepted.{CardFits, OrderFits};
+ghost use Rattle.engine.specs.Fits.{Imaged, Located, Handler-prop};
+ghost use Rattle.engine.specs.Outcomes.{cycle_table, Handled};
+
+// What a run goes by and never writes: an accepted image, where each ruleset's table and its order begin, the card, Table 5,
+// where the instructions begin, how many wires there are, and the handler with its entry.
+#[derive(Clone, Copy)]
+pub struct Code<'a> {
+    pub image: &'a [u8],
+    pub at: &'a [usize],
+    pub orders: &'a [usize],
+    pub card: &'a [u32],
+    pub cycles: &'a [u16],
+    pub start: usize,
+    pub inputs: usize,
+    pub outputs: usize,
+    pub handler: usize,
+    pub entry: usize,
+    pub ghost imaged: { Imaged image.now } by { Prim.hlevel (props, Handler-prop) },
+    pub ghost located: { Located image.now at.now orders.now },
+    pub ghost prices: { CardFits card.now },
+    pub ghost cycled: { cycles.now ≡ cycle_table },
+    pub ghost started: { start ≡ code_at image.now 0 },
+    pub ghost tables: { (r : ℕ) → r < (program image.now).rulesets → get_or at.now r 0 + 3 + 2 * (program image.now).count r ≤ length image.now },
+    pub ghost instructions: { start + 8 * (program image.now).size ≡ length image.now },
+    pub ghost wires_in: { inputs ≡ (program image.now).inputs },
+    pub ghost wires_out: { outputs ≡ (program image.now).outputs },
+    pub ghost handled: { Handled (program image.now) handler entry },
+}
 
 fn byte(image: &[u8], i: usize) -> usize
     requires { i < length image.now }
@@ -27,79 +55,115 @@ fn full(image: &[u8], i: usize) -> u32
     (half(image, i) * 65536 + half(image, i + 2)) as u32
 }
 
-// ---- rulesets
+impl<'a> Code<'a> {
+    pub(crate) fn new(
+        image: &'a [u8],
+        at: &'a [usize],
+        orders: &'a [usize],
+        card: &'a [u32],
+        cycles: &'a [u16],
+    ) -> Code<'a>
+        requires imaged { Imaged image.now }
+        requires located { Located image.now at.now orders.now }
+        requires prices { CardFits card.now }
+        requires cycled { cycles.now ≡ cycle_table }
+        requires in_bounds { 11 ≤ length image.now }
+        ensures { (result.image.now ≡ image.now) × (result.card.now ≡ card.now) }
+    {
+        let start = at[byte(image, 7)];
+        let inputs = byte(image, 5);
+        let outputs = byte(image, 6);
+        let handler = byte(image, 8);
+        let entry = if handler == 255 {
+            0
+        } else {
+            half(image, at[handler])
+        };
+        Code {
+            image,
+            at,
+            orders,
+            card,
+            cycles,
+            start,
+            inputs,
+            outputs,
+            handler,
+            entry,
+        }
+    }
 
-// "entry address (2 bytes)" of the ruleset a
-pub(crate) fn entry_of(image: &[u8], at: &[usize], a: usize) -> usize
-    requires imaged { Imaged image.now }
-    requires placed { Placed image.now at.now }
-    requires a_bound { a < (program image.now).rulesets }
-    ensures { (result ≡ (program image.now).entry a) × (result < 4096) }
-{
-    half(image, at[a])
-}
+    // ---- rulesets
 
-// "rule count (1 byte, 1..16)" of the ruleset r
-pub(crate) fn count_of(image: &[u8], at: &[usize], r: usize) -> usize
-    requires imaged { Imaged image.now }
-    requires placed { Placed image.now at.now }
-    requires r_bound { r < (program image.now).rulesets }
-    ensures { (result ≡ (program image.now).count r) × (result ≤ 16) }
-{
-    byte(image, at[r] + 2)
-}
+    // "entry address (2 bytes)" of the ruleset a
+    #[tactic(auto, using(crate::proofs::Imaging::entry_at, crate::proofs::Imaging::entry_small))]
+    pub(crate) fn entry_of(&self, a: usize) -> usize
+        requires { a < (program self.now.image.now).rulesets }
+        ensures { (result ≡ (program self.now.image.now).entry a) × (result < 4096) }
+    {
+        half(self.image, self.at[a])
+    }
 
-// "rule addresses (2 each)": that of the rule at the order position k of the ruleset rs
-pub(crate) fn rule_at(
-    image: &[u8],
-    at: &[usize],
-    orders: &[usize],
-    order: &[u32],
-    rs: usize,
-    k: usize,
-) -> usize
-    requires imaged { Imaged image.now }
-    requires located { Located image.now at.now orders.now }
-    requires order_fits { OrderFits (program image.now) order.now }
-    requires rs_bound { rs < (program image.now).rulesets }
-    requires k_bound { k < (program image.now).count rs }
-    ensures { (result ≡ (program image.now).rule rs (get_or order.now (order_at (program image.now) rs + k) 0)) × (result < 4096) }
-{
-    let o = orders[rs] + k;
-    let rule = order[o] as usize;
-    half(image, at[rs] + 3 + 2 * rule)
-}
+    // "rule count (1 byte, 1..16)" of the ruleset r
+    #[tactic(auto, using(crate::proofs::Imaging::count_at))]
+    pub(crate) fn count_of(&self, r: usize) -> usize
+        requires { r < (program self.now.image.now).rulesets }
+        ensures { (result ≡ (program self.now.image.now).count r) × (result ≤ 16) }
+    {
+        byte(self.image, self.at[r] + 2)
+    }
 
-// ---- instructions: "N instructions of 8 bytes: opcode, a (1 byte), b (2), c (4)", the first at `code`
+    // where the order of the ruleset r begins
+    pub(crate) fn order_of(&self, r: usize) -> usize
+        requires { r < (program self.now.image.now).rulesets }
+        ensures { result ≡ order_at (program self.now.image.now) r }
+    {
+        self.orders[r]
+    }
 
-pub(crate) fn opcode_at(image: &[u8], code: usize, pc: usize) -> usize
-    requires imaged { Imaged image.now }
-    requires code_value { (code ≡ code_at image.now 0) × (pc < (program image.now).size) }
-    ensures { (result ≡ (program image.now).opcode pc) × (1 ≤ result) × (result ≤ 40) }
-{
-    byte(image, code + 8 * pc)
-}
+    // "rule addresses (2 each)": that of the rule at the order position k of the ruleset rs
+    pub(crate) fn rule_at(&self, order: &[u32], rs: usize, k: usize) -> usize
+        requires order_fits { OrderFits (program self.now.image.now) order.now }
+        requires rs_bound { rs < (program self.now.image.now).rulesets }
+        requires k_bound { k < (program self.now.image.now).count rs }
+        ensures { (result ≡ (program self.now.image.now).rule rs (get_or order.now (order_at (program self.now.image.now) rs + k) 0)) × (result < 4096) }
+    {
+        let o = self.order_of(rs) + k;
+        let rule = order[o] as usize;
+        half(self.image, self.at[rs] + 3 + 2 * rule)
+    }
 
-pub(crate) fn a_at(image: &[u8], code: usize, pc: usize) -> usize
-    requires imaged { Imaged image.now }
-    requires code_value { (code ≡ code_at image.now 0) × (pc < (program image.now).size) }
-    ensures { (result ≡ (program image.now).arg_a pc) × (result < 256) }
-{
-    byte(image, code + 8 * pc + 1)
-}
+    // ---- instructions: "N instructions of 8 bytes: opcode, a (1 byte), b (2), c (4)"
 
-pub(crate) fn b_at(image: &[u8], code: usize, pc: usize) -> usize
-    requires imaged { Imaged image.now }
-    requires code_value { (code ≡ code_at image.now 0) × (pc < (program image.now).size) }
-    ensures { (result ≡ (program image.now).arg_b pc) × (result < 65536) }
-{
-    half(image, code + 8 * pc + 2)
-}
+    #[tactic(auto, using(crate::proofs::Imaging::opcode_is))]
+    pub(crate) fn opcode_at(&self, pc: usize) -> usize
+        requires { pc < (program self.now.image.now).size }
+        ensures { (result ≡ (program self.now.image.now).opcode pc) × (1 ≤ result) × (result ≤ 40) }
+    {
+        byte(self.image, self.start + 8 * pc)
+    }
 
-pub(crate) fn c_at(image: &[u8], code: usize, pc: usize) -> u32
-    requires imaged { Imaged image.now }
-    requires code_value { (code ≡ code_at image.now 0) × (pc < (program image.now).size) }
-    ensures { result ≡ (program image.now).arg_c pc }
-{
-    full(image, code + 8 * pc + 4)
+    #[tactic(auto, using(crate::proofs::Imaging::a_is))]
+    pub(crate) fn a_at(&self, pc: usize) -> usize
+        requires { pc < (program self.now.image.now).size }
+        ensures { (result ≡ (program self.now.image.now).arg_a pc) × (result < 256) }
+    {
+        byte(self.image, self.start + 8 * pc + 1)
+    }
+
+    #[tactic(auto, using(crate::proofs::Imaging::b_is))]
+    pub(crate) fn b_at(&self, pc: usize) -> usize
+        requires { pc < (program self.now.image.now).size }
+        ensures { (result ≡ (program self.now.image.now).arg_b pc) × (result < 65536) }
+    {
+        half(self.image, self.start + 8 * pc + 2)
+    }
+
+    #[tactic(auto, using(crate::proofs::Imaging::c_is))]
+    pub(crate) fn c_at(&self, pc: usize) -> u32
+        requires { pc < (program self.now.image.now).size }
+        ensures { result ≡ (program self.now.image.now).arg_c pc }
+    {
+        full(self.image, self.start + 8 * pc + 4)
+    }
 }

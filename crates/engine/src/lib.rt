@@ -24,10 +24,9 @@ ghost use Rattle.engine.specs.Reports.{ending_number, detail_number, reported, e
 ghost use Rattle.engine.specs.Endings.{refusal, ending, beginning};
 
 use gate::{Refusal, layout, verdict};
-use image::entry_of;
+use image::Code;
 use prims::CYCLES;
 use regs::{Limits, Regs};
-use stepping::fix;
 use whole::wipe;
 
 // "an ending carries its own detail inside the returned record"
@@ -178,16 +177,14 @@ fn run_accepted(
     let table = layout(image);
     let at = table.at;
     let orders = table.order;
-    let fixed = fix(image, &at);
+    let cycles = CYCLES;
+    let code = Code::new(image, &at, &orders, card, &cycles);
     let lim = Limits {
         stack: s as usize,
         heap: h as usize,
     };
-    let first = begin(entry_of(image, &at, 0), t);
-    let cycles = CYCLES;
-    let (last, ending) = first.run(
-        lim, fixed, image, &at, &orders, card, &cycles, stack, heap, wires, order,
-    );
+    let first = begin(code.entry_of(0), t);
+    let (last, ending) = first.run(lim, &code, stack, heap, wires, order);
     wipe(stack, last.sp);
     wipe(heap, last.hp);
     sum_up(ending, last, t)

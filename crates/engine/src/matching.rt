@@ -6,41 +6,45 @@ ghost use Rattle.hume.specs.Instructions.{StartMatches, MatchRule, MatchedRule, 
 ghost use Rattle.laws.specs.Sizes.{Small};
 ghost use Rattle.laws.specs.Accepted.{OrderFits};
 ghost use Rattle.engine.specs.Turns.{Bears, Meets, priced, buffers};
-ghost use Rattle.engine.specs.Fits.{Fit, Refs, Imaged, Located};
-ghost use Rattle.engine.specs.Tables.{Placed};
+ghost use Rattle.engine.specs.Fits.{Fit, Refs};
 ghost use Rattle.engine.specs.Attempts.{Attempts, concludes, seeks};
 
 use super::Ending;
-use super::image::{count_of, rule_at};
+use super::image::Code;
 use super::regs::{Limits, Regs, Turn};
 use super::words::is_value;
 
-// What a match comes to: the number of its fault, or 0; and then whether it matches, with mp and inp after it.
+// The cell that a match asks for: its header, and its second word unless any will do.
+#[derive(Clone, Copy)]
+pub struct Pattern {
+    pub header: u32,
+    pub second: Option<u32>,
+}
+
+// Whether a match succeeds, with mp and inp after it.
 #[derive(Clone, Copy)]
 struct Attempt {
-    fault: u32,
     hit: bool,
     mp: usize,
     inp: usize,
 }
 
-// Whether a word refers to a cell with the header h and, unless any will do, the second word x: "a cell of another kind, or
-// None, only fails a match".
-fn cell_matches(any: bool, h: u32, x: u32, w: u32, heap: &[u32]) -> bool
+// Whether a word refers to a cell of the pattern: "a cell of another kind, or None, only fails a match".
+fn cell_matches(pattern: Pattern, w: u32, heap: &[u32]) -> bool
     requires { w / 2 ^ 28 ≡ 1 → w % 2 ^ 28 + 2 ≤ length heap.now }
-    ensures { (v : Word) (hs : List Word) → w ≡ bits v → Small v → Bears heap.now hs → (w / 2 ^ 28 ≡ 1 → w % 2 ^ 28 + 2 ≤ length hs) → result ≡ seeks any h x hs v }
+    ensures { (v : Word) (hs : List Word) → w ≡ bits v → Small v → Bears heap.now hs → (w / 2 ^ 28 ≡ 1 → w % 2 ^ 28 + 2 ≤ length hs) → result ≡ seeks pattern hs v }
 {
     if w / 268435456 != 1 {
         return false;
     }
     let p = (w % 268435456) as usize;
-    if heap[p] != h {
+    if heap[p] != pattern.header {
         return false;
     }
-    if any {
-        return true;
+    match pattern.second {
+        Some(x) => heap[p + 1] == x,
+        None => true,
     }
-    heap[p + 1] == x
 }
 
 // The number at i goes to the place before j, those between move down one.
@@ -49,47 +53,30 @@ fn move_last(order: &mut [u32], i: usize, j: usize)
     ensures { order.new ≡ move_last order.old i j }
 {
     let first = order[i];
-    let mut k = i;
-    while k + 1 < j {
-        let w = order[k + 1];
-        order[k] = w;
-        k += 1;
-    }
-    order[k] = first;
+    order.copy_within(i + 1..j, i);
+    order[j - 1] = first;
 }
 
 impl Regs {
     // "22 StartMatches: to the current ruleset's rule at order 0"
-    pub(crate) fn start_matches(
-        self,
-        lim: Limits,
-        cost: usize,
-        image: &[u8],
-        at: &[usize],
-        orders: &[usize],
-        order: &[u32],
-    ) -> Turn
+    pub(crate) fn start_matches(self, lim: Limits, cost: usize, code: &Code, order: &[u32]) -> Turn
         requires fit { Fit lim self }
-        requires imaged { Imaged image.now }
-        requires located { Located image.now at.now orders.now }
-        requires order_fits { OrderFits (program image.now) order.now }
-        requires rs_bound { self.rs < (program image.now).rulesets }
-        ensures { (st he wi : List ℕ) → Meets lim self (buffers st he wi order.now) (priced cost (StartMatches (program image.now))) result (buffers st he wi order.now) }
+        requires order_fits { OrderFits (program code.now.image.now) order.now }
+        requires rs_bound { self.rs < (program code.now.image.now).rulesets }
+        ensures { (st he wi : List ℕ) → Meets lim self (buffers st he wi order.now) (priced cost (StartMatches (program code.now.image.now))) result (buffers st he wi order.now) }
     {
         let mut next = self;
-        next.pc = rule_at(image, at, orders, order, self.rs, 0);
+        next.pc = code.rule_at(order, self.rs, 0);
         self.charge_time(lim, cost, next)
     }
 
     // "23 MatchRule: rp + 1, mp and inp 0, values dropped"; "7 MatchRule with rp at the count"
-    pub(crate) fn match_rule(self, lim: Limits, cost: usize, image: &[u8], at: &[usize]) -> Turn
+    pub(crate) fn match_rule(self, lim: Limits, cost: usize, code: &Code) -> Turn
         requires fit { Fit lim self }
-        requires imaged { Imaged image.now }
-        requires placed { Placed image.now at.now }
-        requires rs_bound { self.rs < (program image.now).rulesets }
-        ensures { (st he wi or : List ℕ) → Meets lim self (buffers st he wi or) (priced cost (MatchRule (program image.now))) result (buffers st he wi or) }
+        requires rs_bound { self.rs < (program code.now.image.now).rulesets }
+        ensures { (st he wi or : List ℕ) → Meets lim self (buffers st he wi or) (priced cost (MatchRule (program code.now.image.now))) result (buffers st he wi or) }
     {
-        let count = count_of(image, at, self.rs);
+        let count = code.count_of(self.rs);
         if count <= self.rp {
             return self.halt(Ending::Fault(7));
         }
@@ -126,60 +113,43 @@ impl Regs {
     }
 
     // "26 MatchAvailable: inp + 1, fails if that input is empty"; "input (inp at least their number)"
-    fn available(self, inputs: usize, wires: &[u32]) -> Attempt
+    fn available(self, inputs: usize, wires: &[u32]) -> Result<Attempt, Ending>
         requires inp_bound { self.inp < 2 ^ 32 }
         requires inputs_in_bounds { 65 * inputs ≤ length wires.now }
         ensures { (P : Program) (st he or : List ℕ) → P.inputs ≡ inputs → Attempts P self (buffers st he wires.now or) (MatchAvailable P) result }
     {
         let i = self.inp;
         if inputs <= i {
-            return Attempt {
-                fault: 3,
-                hit: false,
-                mp: self.mp,
-                inp: i,
-            };
+            return Err(Ending::Fault(3));
         }
         let k = wires[65 * i];
-        Attempt {
-            fault: 0,
+        Ok(Attempt {
             hit: k != 0,
             mp: self.mp,
             inp: i + 1,
-        }
+        })
     }
 
     // "argument mp, the word at fp-5-mp, then mp + 1"
-    fn compare(self, any: bool, h: u32, x: u32, stack: &[u32], heap: &[u32]) -> Attempt
+    fn compare(self, pattern: Pattern, stack: &[u32], heap: &[u32]) -> Result<Attempt, Ending>
         requires mp_bound { (self.mp < 2 ^ 32) × (self.fp ≤ self.sp) × (self.sp ≤ length stack.now) × (self.hp ≤ length heap.now) }
         requires refs { Refs self stack.now }
-        ensures { (P : Program) (wi or : List ℕ) → Attempts P self (buffers stack.now heap.now wi or) (matches P (seeks any h x)) result }
+        ensures { (P : Program) (wi or : List ℕ) → Attempts P self (buffers stack.now heap.now wi or) (matches P (seeks pattern)) result }
     {
         let k = 5 + self.mp;
         if self.fp < k {
-            return Attempt {
-                fault: 3,
-                hit: false,
-                mp: self.mp,
-                inp: self.inp,
-            };
+            return Err(Ending::Fault(3));
         }
         let p = self.fp - k;
         let w = stack[p];
         if !is_value(w) {
-            return Attempt {
-                fault: 2,
-                hit: false,
-                mp: self.mp,
-                inp: self.inp,
-            };
+            return Err(Ending::Fault(2));
         }
-        Attempt {
-            fault: 0,
-            hit: cell_matches(any, h, x, w, heap),
+        Ok(Attempt {
+            hit: cell_matches(pattern, w, heap),
             mp: self.mp + 1,
             inp: self.inp,
-        }
+        })
     }
 
     // "A failure goes to the rule at order rp"; "3 no rule left after a failed match"
@@ -187,33 +157,27 @@ impl Regs {
         self,
         lim: Limits,
         cost: usize,
-        hit: bool,
-        mp: usize,
-        inp: usize,
-        image: &[u8],
-        at: &[usize],
-        orders: &[usize],
+        attempt: Attempt,
+        code: &Code,
         order: &[u32],
     ) -> Turn
         requires fit { Fit lim self }
-        requires imaged { Imaged image.now }
-        requires located { Located image.now at.now orders.now }
-        requires order_fits { OrderFits (program image.now) order.now }
-        requires rs_bound { self.rs < (program image.now).rulesets }
-        ensures { (st he wi : List ℕ) → Meets lim self (buffers st he wi order.now) (priced cost (concludes (program image.now) hit mp inp)) result (buffers st he wi order.now) }
+        requires order_fits { OrderFits (program code.now.image.now) order.now }
+        requires rs_bound { self.rs < (program code.now.image.now).rulesets }
+        ensures { (st he wi : List ℕ) → Meets lim self (buffers st he wi order.now) (priced cost (concludes (program code.now.image.now) attempt)) result (buffers st he wi order.now) }
     {
         let mut next = self;
-        next.mp = mp;
-        next.inp = inp;
-        if hit {
+        next.mp = attempt.mp;
+        next.inp = attempt.inp;
+        if attempt.hit {
             next.pc = self.pc + 1;
             return self.charge_time(lim, cost, next);
         }
-        let count = count_of(image, at, self.rs);
+        let count = code.count_of(self.rs);
         if count <= self.rp {
             return self.halt(Ending::NoRule);
         }
-        next.pc = rule_at(image, at, orders, order, self.rs, self.rp);
+        next.pc = code.rule_at(order, self.rs, self.rp);
         self.charge_time(lim, cost, next)
     }
 
@@ -222,26 +186,20 @@ impl Regs {
         self,
         lim: Limits,
         cost: usize,
-        inputs: usize,
-        image: &[u8],
-        at: &[usize],
-        orders: &[usize],
+        code: &Code,
         order: &[u32],
         wires: &[u32],
     ) -> Turn
         requires fit { Fit lim self }
-        requires imaged { Imaged image.now }
-        requires located { Located image.now at.now orders.now }
-        requires order_fits { OrderFits (program image.now) order.now }
-        requires rs_bound { self.rs < (program image.now).rulesets }
-        requires inputs_value { (inputs ≡ (program image.now).inputs) × (65 * inputs ≤ length wires.now) }
-        ensures { (st he : List ℕ) → Meets lim self (buffers st he wires.now order.now) (priced cost (MatchAvailable (program image.now))) result (buffers st he wires.now order.now) }
+        requires order_fits { OrderFits (program code.now.image.now) order.now }
+        requires rs_bound { self.rs < (program code.now.image.now).rulesets }
+        requires wires_in_bounds { 65 * code.now.inputs ≤ length wires.now }
+        ensures { (st he : List ℕ) → Meets lim self (buffers st he wires.now order.now) (priced cost (MatchAvailable (program code.now.image.now))) result (buffers st he wires.now order.now) }
     {
-        let t = self.available(inputs, wires);
-        if t.fault != 0 {
-            return self.halt(Ending::Fault(t.fault));
+        match self.available(code.inputs, wires) {
+            Ok(attempt) => self.conclude(lim, cost, attempt, code, order),
+            Err(ending) => self.halt(ending),
         }
-        self.conclude(lim, cost, t.hit, t.mp, t.inp, image, at, orders, order)
     }
 
     // 27 to 32: the cell that is asked for differs, a failure doesn't.
@@ -249,57 +207,40 @@ impl Regs {
         self,
         lim: Limits,
         cost: usize,
-        any: bool,
-        h: u32,
-        x: u32,
-        image: &[u8],
-        at: &[usize],
-        orders: &[usize],
+        pattern: Pattern,
+        code: &Code,
         order: &[u32],
         stack: &[u32],
         heap: &[u32],
     ) -> Turn
         requires fit { Fit lim self }
-        requires imaged { Imaged image.now }
-        requires located { Located image.now at.now orders.now }
-        requires order_fits { OrderFits (program image.now) order.now }
-        requires rs_bound { self.rs < (program image.now).rulesets }
+        requires order_fits { OrderFits (program code.now.image.now) order.now }
+        requires rs_bound { self.rs < (program code.now.image.now).rulesets }
         requires stack_in_bounds { (lim.stack ≤ length stack.now) × (lim.heap ≤ length heap.now) }
         requires refs { Refs self stack.now }
-        ensures { (wi : List ℕ) → Meets lim self (buffers stack.now heap.now wi order.now) (priced cost (matches (program image.now) (seeks any h x))) result (buffers stack.now heap.now wi order.now) }
+        ensures { (wi : List ℕ) → Meets lim self (buffers stack.now heap.now wi order.now) (priced cost (matches (program code.now.image.now) (seeks pattern))) result (buffers stack.now heap.now wi order.now) }
     {
-        let t = self.compare(any, h, x, stack, heap);
-        if t.fault != 0 {
-            return self.halt(Ending::Fault(t.fault));
+        match self.compare(pattern, stack, heap) {
+            Ok(attempt) => self.conclude(lim, cost, attempt, code, order),
+            Err(ending) => self.halt(ending),
         }
-        self.conclude(lim, cost, t.hit, t.mp, t.inp, image, at, orders, order)
     }
 
     // "34 Reorder: the rule at order position rp goes last, those after it move down one; with rp = count, nothing"
-    pub(crate) fn reorder(
-        self,
-        lim: Limits,
-        cost: usize,
-        image: &[u8],
-        at: &[usize],
-        orders: &[usize],
-        order: &mut [u32],
-    ) -> Turn
+    pub(crate) fn reorder(self, lim: Limits, cost: usize, code: &Code, order: &mut [u32]) -> Turn
         requires fit { Fit lim self }
-        requires imaged { Imaged image.now }
-        requires located { Located image.now at.now orders.now }
-        requires order_fits { OrderFits (program image.now) order.old }
-        requires rs_bound { self.rs < (program image.now).rulesets }
-        ensures { (st he wi : List ℕ) → Meets lim self (buffers st he wi order.old) (priced cost (Reorder (program image.now))) result (buffers st he wi order.new) }
+        requires order_fits { OrderFits (program code.now.image.now) order.old }
+        requires rs_bound { self.rs < (program code.now.image.now).rulesets }
+        ensures { (st he wi : List ℕ) → Meets lim self (buffers st he wi order.old) (priced cost (Reorder (program code.now.image.now))) result (buffers st he wi order.new) }
     {
         let rs = self.rs;
         let mut next = self;
         next.pc = self.pc + 1;
         let turn = self.charge_time(lim, cost, next);
         if turn.goes_on() {
-            let count = count_of(image, at, rs);
+            let count = code.count_of(rs);
             if self.rp < count {
-                let from = orders[rs];
+                let from = code.order_of(rs);
                 move_last(order, from + self.rp, from + count);
             }
         }

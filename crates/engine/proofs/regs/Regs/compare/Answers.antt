@@ -8,16 +8,12 @@ use Rattle.engine.proofs.regs.Regs.compare.Goals as goal
 
 pub returns-then-self-k : goal.returns-then-self-k
 returns-then-self-k c =
-    λ P wi or. record { each = λ ws hs h m n. faulty (omega arith) (compare_none h wi or P _ c.if-self-k.true) }
+    λ P wi or. record { each = λ ws hs h m n. faulty 3 refl (compare_none h wi or P _ c.if-self-k.true) }
 
 pub returns-then-not-is_value : goal.returns-then-not-is_value
 returns-then-not-is_value c =
-    let p = c.args.self.fp - (5 + c.args.self.mp) in let l : p < c.args.self.sp = omega (arith, c.if-self-k.false, c.requires.mp_bound) in λ P wi or. record { each = λ ws hs h m n. faulty (omega arith) (compare_kind h wi or P _ c.if-self-k.false (sym (c.is_value.ensures _ (argument_word h wi or _ p l refl) (m.each p)) ∙ not-true _ c.if-not-is_value.true-raw)) }
-
-pub cell_matches-requires : goal.cell_matches-requires
-cell_matches-requires c =
-    let p = c.args.self.fp - (5 + c.args.self.mp) in let l : p < c.args.self.sp = omega (arith, c.if-self-k.false, c.requires.mp_bound) in λ k. omega (arith, c.requires.refs.each p l k, c.requires.mp_bound)
+    let p = c.args.self.fp - (5 + c.args.self.mp) in let l : p < c.args.self.sp = omega (arith, c.if-self-k.false, c.requires.mp_bound) in λ P wi or. record { each = λ ws hs h m n. faulty 2 refl (compare_kind h wi or P _ c.if-self-k.false (sym (c.is_value.ensures _ (argument_word h wi or _ p l refl) (m.each p)) ∙ not-true _ c.if-not-is_value.true-raw)) }
 
 pub returns : goal.returns
 returns c =
-    let p = c.args.self.fp - (5 + c.args.self.mp) in let l : p < c.args.self.sp = omega (arith, c.if-self-k.false, c.requires.mp_bound) in λ P wi or. record { each = λ ws hs h m n. let e = argument_word h wi or _ p l refl in tries refl (compare_tries h wi or P _ _ c.if-self-k.false (sym (c.is_value.ensures _ e (m.each p)) ∙ not-false _ c.if-not-is_value.false-raw) (c.cell_matches.ensures _ hs e (m.each p) h.heap (λ k. omega (arith, h.hp, c.requires.refs.each p l k)))) }
+    let p = c.args.self.fp - (5 + c.args.self.mp) in let l : p < c.args.self.sp = omega (arith, c.if-self-k.false, c.requires.mp_bound) in λ P wi or. record { each = λ ws hs h m n. let e = argument_word h wi or _ p l refl in tries _ refl (compare_tries h wi or P _ _ c.if-self-k.false (sym (c.is_value.ensures _ e (m.each p)) ∙ not-false _ c.if-not-is_value.false-raw) (c.cell_matches.ensures _ hs e (m.each p) h.heap (λ k. omega (arith, h.hp, c.requires.refs.each p l k)))) }

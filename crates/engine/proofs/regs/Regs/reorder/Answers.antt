@@ -1,29 +1,22 @@
 use Rattle.engine.proofs.Trying.{reorder_leads, reordered_moves, reordered_stays}
-use Rattle.engine.proofs.Imaging.{orders_at, orders_room}
+use Rattle.laws.proofs.Orders.{order_room}
 use Rattle.engine.proofs.Turning.{settle_yes, settle_no}
 use native.Mathlib.Omega.{arith}
 use mathlib.Core.Path.{refl, sym, ◌∙◌}
 use Rattle.engine.proofs.regs.Regs.reorder.Goals as goal
 
-pub bounds-orders-rs : goal.bounds-orders-rs
-bounds-orders-rs c =
-    let l = c.requires.located.orders_long in let n = c.requires.imaged.accepted.rulesets in omega (arith, l, n, c.requires.rs_bound)
-
 pub overflow_add-from : goal.overflow_add-from
-overflow_add-from c =
-    omega (arith, orders_room c.requires.imaged c.requires.located c.requires.order_fits c.args.self.rs c.requires.rs_bound, c.count_of-count.ensures.0, c.if-self-count.true)
+overflow_add-from c = omega (arith, order_room c.requires.order_fits c.args.self.rs c.requires.rs_bound, c.order_of-from.ensures, c.count_of-count.ensures.0, c.if-self-count.true)
 
 pub overflow_add-from-then-self-count : goal.overflow_add-from-then-self-count
-overflow_add-from-then-self-count c =
-    omega (arith, orders_room c.requires.imaged c.requires.located c.requires.order_fits c.args.self.rs c.requires.rs_bound, c.count_of-count.ensures.0, c.if-self-count.true)
+overflow_add-from-then-self-count c = omega (arith, order_room c.requires.order_fits c.args.self.rs c.requires.rs_bound, c.order_of-from.ensures, c.count_of-count.ensures.0, c.if-self-count.true)
 
 pub move_last-requires : goal.move_last-requires
-move_last-requires c =
-    omega (arith, orders_room c.requires.imaged c.requires.located c.requires.order_fits c.args.self.rs c.requires.rs_bound, c.count_of-count.ensures.0, c.if-self-count.true)
+move_last-requires c = omega (arith, order_room c.requires.order_fits c.args.self.rs c.requires.rs_bound, c.order_of-from.ensures, c.count_of-count.ensures.0, c.if-self-count.true)
 
 pub returns-then-self-count : goal.returns-then-self-count
 returns-then-self-count c =
-    λ st he wi. record { each = λ ws hs h m n. settle_yes (reorder_leads h wi _ _ _) _ _ c.charge_time-turn.ensures (sym c.goes_on.ensures ∙ c.if-goes_on.true) (λ a b. record { stack = h.stack; heap = h.heap; wires = refl; order = reordered_moves h wi _ _ _ _ (orders_at c.requires.imaged c.requires.located c.requires.order_fits c.args.self.rs c.requires.rs_bound) c.count_of-count.ensures.0 c.if-self-count.true c.move_last.ensures }) }
+    λ st he wi. record { each = λ ws hs h m n. settle_yes (reorder_leads h wi _ _ _) _ _ c.charge_time-turn.ensures (sym c.goes_on.ensures ∙ c.if-goes_on.true) (λ a b. record { stack = h.stack; heap = h.heap; wires = refl; order = reordered_moves h wi _ _ _ _ c.order_of-from.ensures c.count_of-count.ensures.0 c.if-self-count.true c.move_last.ensures }) }
 
 pub returns-else-self-count : goal.returns-else-self-count
 returns-else-self-count c =

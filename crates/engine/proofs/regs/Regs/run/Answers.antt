@@ -7,14 +7,11 @@ loop-ending-init c = (λ u. u.going, refl, refl, refl, refl)
 
 pub step-turn-requires : goal.step-turn-requires
 step-turn-requires c =
-    let i = c.loop-ending.invariant in record {
-      ready = may_step c.requires.underway (i.0 c.requires.underway) i.1 i.2;
-      table_value = c.requires.table_value;
-    }
+    let i = c.loop-ending.invariant in may_step c.requires (i.0 c.requires) i.1 i.2
 
 pub loop-ending-smaller : goal.loop-ending-smaller
 loop-ending-smaller c =
-    let p = c.requires.underway in let o = going_on p (c.loop-ending.invariant.0 p) _ _ c.step-turn.ensures (λ e. c.in_default.not-Some e) in o.less
+    let p = c.requires in let o = going_on p (c.loop-ending.invariant.0 p) _ _ c.step-turn.ensures (λ e. c.in_default.not-Some e) in o.less
 
 pub loop-ending-preserved : goal.loop-ending-preserved
 loop-ending-preserved c =

@@ -2,15 +2,8 @@ use Rattle.engine.proofs.Trying.{start_leads, stays}
 use Rattle.engine.proofs.Turning.{settled}
 use Rattle.engine.proofs.regs.Regs.start_matches.Goals as goal
 
-pub rule_at-requires : goal.rule_at-requires
-rule_at-requires c =
-    record {
-      imaged = c.requires.imaged;
-      located = c.requires.located;
-      order_fits = c.requires.order_fits;
-      rs_bound = c.requires.rs_bound;
-      k_bound = c.requires.imaged.accepted.some_rule _ c.requires.rs_bound;
-    }
+pub rule_at-requires-clause-k_bound : goal.rule_at-requires-clause-k_bound
+rule_at-requires-clause-k_bound c = c.args.code.now.imaged.accepted.some_rule _ c.requires.rs_bound
 
 pub returns : goal.returns
 returns c =
