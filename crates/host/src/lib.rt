@@ -46,7 +46,7 @@ fn detail_of(e: Ending) -> u32
     }
 }
 
-// x at i, or nothing past the end.
+// x at i, or nothing past the end. By index, since a proof knows no element of what `get_mut` of a slice has written to.
 fn put(figures: &mut [u32], i: usize, x: u32)
     ensures { figures.new ≡ set figures.old i x }
 {
