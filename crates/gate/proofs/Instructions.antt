@@ -10,9 +10,9 @@ use Rattle.hume.specs.Tests.{every}
 use Rattle.hume.specs.Image.{Program, program, byte, half, full, ruleset_at, code_at}
 use Rattle.hume.specs.Refusals.{Field, Fields, fields, unused, anything, truth, address, input, output, callee, primitive1, primitive2, field_ok, format, format_of, opcode_ok, instruction_ok, last_ok}
 use Rattle.gate.specs.declared.code.Format.{Format}
-use Rattle.gate.specs.declared.code.Sizes.{Sizes}
+use Rattle.gate.specs.declared.image.Header.{Header}
 use Rattle.gate.specs.declared.code.TheConstants.{FORMATS}
-use Rattle.gate.specs.Parts.{kinds, sized, SizesOf, fields_ok, ends_ok}
+use Rattle.gate.specs.Parts.{kinds, sized, HeaderOf, fields_ok, ends_ok}
 use Rattle.gate.proofs.Tests.{and_yes, and_no}
 
 -- ---- the table
@@ -32,7 +32,7 @@ format_is op d h =
 
 -- what a field may hold goes by the program's sizes alone
 field_sized : (P : Program) (f : Field) (x : ℕ)
-    → field_ok (sized (record { inputs = P.inputs; outputs = P.outputs; rulesets = P.rulesets; size = P.size })) f x
+    → field_ok (sized (record { inputs = P.inputs; outputs = P.outputs; rulesets = P.rulesets; size = P.size; handler = P.handler })) f x
     ≡ field_ok P f x
 unfolding field_ok
 field_sized P unused x = refl
@@ -63,9 +63,9 @@ module _ (P : Program) (op a b c : ℕ) where
 
 -- ---- the instructions of an image
 
-module _ (m : List ℕ) (start : ℕ) (s : Sizes) (st : start ≡ ruleset_at m (byte m 7)) (es : SizesOf m s) where
+module _ (m : List ℕ) (start : ℕ) (h : Header) (st : start ≡ ruleset_at m (byte m 7)) (es : HeaderOf m h) where
   pub instruction_is : (k : ℕ) → instruction_ok (program m) k
-      ≡ fields_ok (sized s) (byte m (start + 8 * k)) (byte m (start + 8 * k + 1)) (half m (start + 8 * k + 2))
+      ≡ fields_ok (sized h) (byte m (start + 8 * k)) (byte m (start + 8 * k + 1)) (half m (start + 8 * k + 2))
       (full m (start + 8 * k + 4))
   unfolding instruction_ok program code_at fields_ok
   instruction_is k =
@@ -78,11 +78,11 @@ module _ (m : List ℕ) (start : ℕ) (s : Sizes) (st : start ≡ ruleset_at m (
       ∙ sym (λ j. fields_ok (sized (es j)) (byte m (st j + 8 * k)) (byte m (st j + 8 * k + 1))
       (half m (st j + 8 * k + 2)) (full m (st j + 8 * k + 4)))
 
-  pub last_is : last_ok (program m) ≡ ends_ok (byte m (start + 8 * (s.size - 1)))
+  pub last_is : last_ok (program m) ≡ ends_ok (byte m (start + 8 * (h.size - 1)))
   unfolding last_ok program code_at ends_ok
   last_is = sym (λ j. ends_ok (byte m (st j + 8 * ((es j).size - 1))))
 
-  pub instructions_are : every s.size (λ k. fields_ok (sized s) (byte m (start + 8 * k)) (byte m (start + 8 * k + 1))
+  pub instructions_are : every h.size (λ k. fields_ok (sized h) (byte m (start + 8 * k)) (byte m (start + 8 * k + 1))
       (half m (start + 8 * k + 2)) (full m (start + 8 * k + 4)))
       ≡ every (program m).size (instruction_ok (program m))
   unfolding program

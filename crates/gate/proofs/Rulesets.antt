@@ -14,7 +14,8 @@ use Rattle.hume.specs.Tests.{pick, every}
 use Rattle.hume.specs.Image.{Program, program, byte, half, full, ruleset_at, code_at, order_at}
 use Rattle.hume.specs.Refusals.{counts_ok, ruleset_ok}
 use Rattle.std.specs.Prelude.{Some, None}
-use Rattle.gate.specs.Parts.{ranges_ok, count_ok, counts_end, rules_ok}
+use Rattle.gate.specs.declared.image.Header.{Header}
+use Rattle.gate.specs.Parts.{HeaderOf, ranges_ok, count_ok, counts_end, rules_ok}
 use Rattle.laws.proofs.Tests.{and_left, and_right, of_true, every_at}
 use Rattle.gate.proofs.Tests.{and_yes, and_no, regroup, every_yes, every_no, found_yes, found_no, found_place, lost_place}
 
@@ -91,27 +92,31 @@ counts_are m =
     regroup (leb P.inputs 8) (leb P.outputs 8) (leb 1 P.rulesets) (leb P.rulesets 32)
     (ltb P.handler P.rulesets || eqb P.handler 255) (leb 1 P.size) (leb P.size 4096) _
 
-module _ (m : List ℕ) (i o n h s : ℕ) (ei : i ≡ byte m 5) (eo : o ≡ byte m 6) (en : n ≡ byte m 7) (eh : h ≡ byte m 8)
-    (es : s ≡ half m 9) where
+module _ (m : List ℕ) (h : Header) (e : HeaderOf m h) where
+  abbrev in_range : Bool
+  in_range = ranges_ok h.inputs h.outputs h.rulesets h.handler h.size
+
   counts_with : counts_ok m (program m)
-      ≡ (ranges_ok i o n h s && (every n (count_ok (program m)) && eqb (ruleset_at m n + 8 * s) (length m)))
+      ≡ (in_range && (every h.rulesets (count_ok (program m)) && eqb (ruleset_at m h.rulesets + 8 * h.size) (length m)))
   counts_with =
       counts_are m
-      ∙ sym (λ j. ranges_ok (ei j) (eo j) (en j) (eh j) (es j)
-      && (every (en j) (count_ok (program m)) && eqb (ruleset_at m (en j) + 8 * es j) (length m)))
+      ∙ sym (λ j. ranges_ok (e j).inputs (e j).outputs (e j).rulesets (e j).handler (e j).size
+      && (every (e j).rulesets (count_ok (program m))
+      && eqb (ruleset_at m (e j).rulesets + 8 * (e j).size) (length m)))
 
-  pub counts_out : ranges_ok i o n h s ≡ false → counts_ok m (program m) ≡ false
-  counts_out e = counts_with ∙ and_no _ _ e
+  pub counts_out : in_range ≡ false → counts_ok m (program m) ≡ false
+  counts_out n = counts_with ∙ and_no _ _ n
 
-  module _ (e : ranges_ok i o n h s ≡ true) where
-    pub counts_lost : None ≡ counts_end m n → counts_ok m (program m) ≡ false
-    counts_lost z = counts_with ∙ and_yes _ _ e ∙ and_no _ _ (lost_place _ _ z)
+  module _ (y : in_range ≡ true) where
+    pub counts_lost : None ≡ counts_end m h.rulesets → counts_ok m (program m) ≡ false
+    counts_lost z = counts_with ∙ and_yes _ _ y ∙ and_no _ _ (lost_place _ _ z)
 
-    pub counts_end_lem : (r : ℕ) → Some r ≡ counts_end m n → eqb (r + 8 * s) (length m) ≡ counts_ok m (program m)
+    pub counts_end_lem : (r : ℕ) → Some r ≡ counts_end m h.rulesets
+        → eqb (r + 8 * h.size) (length m) ≡ counts_ok m (program m)
     counts_end_lem r k =
         let f = found_place _ _ r k in
-        ap (λ (p : ℕ). eqb (p + 8 * s) (length m)) f.is
-        ∙ sym (counts_with ∙ and_yes _ _ e ∙ and_yes _ _ f.passes)
+        ap (λ (p : ℕ). eqb (p + 8 * h.size) (length m)) f.is
+        ∙ sym (counts_with ∙ and_yes _ _ y ∙ and_yes _ _ f.passes)
 
 -- what the ranges say of the number of rulesets
 pub ranges_rulesets : (i o n h s : ℕ) → ranges_ok i o n h s ≡ true → n ≤ 32

@@ -3,7 +3,7 @@ use Rattle.std.specs.Prelude.{◌≡◌, Bool, ◌&&◌, Option, Some, None, ◌
 use Rattle.gate.specs.declared.code.Kind.{Kind}
 use Rattle.gate.specs.declared.code.Kind.TheVariants.{Unused, Anything, Truth, Address, Input, Output, Ruleset, Primitive1, Primitive2}
 use Rattle.gate.specs.declared.code.Format.{Format}
-use Rattle.gate.specs.declared.code.Sizes.{Sizes}
+use Rattle.gate.specs.declared.image.Header.{Header}
 use Rattle.hume.specs.Tests.{pick, every}
 use Rattle.hume.specs.Image.{Program, program, byte, half, ruleset_at, order_at}
 use Rattle.hume.specs.Refusals.{Field, Fields, fields, unused, anything, truth, address, input, output, callee, primitive1, primitive2, field_ok, format_of, opcode_ok, ruleset_ok}
@@ -52,15 +52,15 @@ kind_of Primitive2 = primitive2
 abbrev pub kinds : Format → Fields
 kinds f = fields (kind_of f.a) (kind_of f.b) (kind_of f.c)
 
--- a program of which only the sizes are given
-abbrev pub sized : Sizes → Program
-sized s =
+-- a program of which only the header is given
+abbrev pub sized : Header → Program
+sized h =
     record {
-      inputs = s.inputs;
-      outputs = s.outputs;
-      rulesets = s.rulesets;
-      handler = 0;
-      size = s.size;
+      inputs = h.inputs;
+      outputs = h.outputs;
+      rulesets = h.rulesets;
+      handler = h.handler;
+      size = h.size;
       entry = λ r. 0;
       count = λ r. 0;
       rule = λ r k. 0;
@@ -70,10 +70,11 @@ sized s =
       arg_c = λ k. 0;
     }
 
--- the sizes that stand in the image's first bytes
-abbrev pub SizesOf : List ℕ → Sizes → Type 0
-SizesOf m s =
-    s ≡ record { inputs = byte m 5; outputs = byte m 6; rulesets = byte m 7; size = half m 9 }
+-- the numbers that stand in the image's first bytes
+abbrev pub HeaderOf : List ℕ → Header → Type 0
+HeaderOf m h =
+    h
+    ≡ record { inputs = byte m 5; outputs = byte m 6; rulesets = byte m 7; handler = byte m 8; size = half m 9 }
 
 -- the test of an instruction, by its four numbers
 unfoldable pub fields_ok : Program → ℕ → ℕ → ℕ → ℕ → Bool

@@ -3,9 +3,9 @@ ghost use Rattle.std.specs.Prelude.{◌≡◌, ◌+◌, ◌≤◌, ◌<◌, ◌^
 ghost use Rattle.hume.specs.Tests.{every};
 ghost use Rattle.hume.specs.Image.{program, byte, half, full, ruleset_at};
 ghost use Rattle.hume.specs.Refusals.{field_ok, format_of, instruction_ok, code_ok};
-ghost use Rattle.gate.specs.Parts.{Read, addresses_end, rules_ok, kind_of, kinds, sized, SizesOf, fields_ok, ends_ok};
+ghost use Rattle.gate.specs.Parts.{Read, addresses_end, rules_ok, kind_of, kinds, sized, HeaderOf, fields_ok, ends_ok};
 
-use crate::image::{byte_at, full_at, half_at};
+use crate::image::{Header, byte_at, full_at, half_at};
 
 // What may stand in a field: "a of CopyInput, Consume, MaybeConsume, Write, Call and the primitives is checked in the image
 // (it must exist), as is c of MkBool and MatchBool."
@@ -20,6 +20,26 @@ enum Kind {
     Ruleset,
     Primitive1,
     Primitive2,
+}
+
+impl Kind {
+    // Whether x may stand there, in an image with this header.
+    #[tactic(auto, unfolding(hume::specs::Refusals::field_ok))]
+    fn allows(self, x: usize, header: Header) -> bool
+        ensures { result ≡ field_ok (sized header) (kind_of self) x }
+    {
+        match self {
+            Kind::Unused => x == 0,
+            Kind::Anything => true,
+            Kind::Truth => x < 2,
+            Kind::Address => x < header.size,
+            Kind::Input => x < header.inputs,
+            Kind::Output => x < header.outputs,
+            Kind::Ruleset => x < header.rulesets,
+            Kind::Primitive1 => (1..=3).contains(&x),
+            Kind::Primitive2 => (1..=22).contains(&x),
+        }
+    }
 }
 
 // The kinds of an instruction's three fields.
@@ -142,51 +162,10 @@ fn format_at(op: usize) -> Format
     FORMATS[op - 1]
 }
 
-// What an instruction's fields are tested against.
-#[derive(Clone, Copy)]
-struct Sizes {
-    inputs: usize,
-    outputs: usize,
-    rulesets: usize,
-    size: usize,
-}
-
-impl Sizes {
-    fn of(image: &[u8]) -> Sizes
-        ensures is { SizesOf image.now result }
-        ensures small { result.size < 65536 }
-    {
-        Sizes {
-            inputs: byte_at(image, 5),
-            outputs: byte_at(image, 6),
-            rulesets: byte_at(image, 7),
-            size: half_at(image, 9),
-        }
-    }
-
-    // Whether x may stand in a field of this kind.
-    #[tactic(auto, unfolding(hume::specs::Refusals::field_ok))]
-    fn allow(self, kind: Kind, x: usize) -> bool
-        ensures { result ≡ field_ok (sized self) (kind_of kind) x }
-    {
-        match kind {
-            Kind::Unused => x == 0,
-            Kind::Anything => true,
-            Kind::Truth => x < 2,
-            Kind::Address => x < self.size,
-            Kind::Input => x < self.inputs,
-            Kind::Output => x < self.outputs,
-            Kind::Ruleset => x < self.rulesets,
-            Kind::Primitive1 => (1..=3).contains(&x),
-            Kind::Primitive2 => (1..=22).contains(&x),
-        }
-    }
-}
-
 // The 8 bytes at a place: "opcode, a (1 byte), b (2), c (4)".
-fn instruction_ok(image: &[u8], at: usize, s: Sizes) -> bool
+fn instruction_ok(image: &[u8], at: usize, header: Header) -> bool
     requires { at < 2 ^ 32 }
-    ensures { result ≡ fields_ok (sized s) (byte image.now at)
+    ensures { result ≡ fields_ok (sized header) (byte image.now at)
         (byte image.now (at + 1)) (half image.now (at + 2)) (full image.now (at + 4)) }
 {
     let op = byte_at(image, at);
@@ -194,9 +173,9 @@ fn instruction_ok(image: &[u8], at: usize, s: Sizes) -> bool
         return false;
     }
     let kinds = format_at(op);
-    s.allow(kinds.a, byte_at(image, at + 1))
-        && s.allow(kinds.b, half_at(image, at + 2))
-        && s.allow(kinds.c, full_at(image, at + 4))
+    kinds.a.allows(byte_at(image, at + 1), header)
+        && kinds.b.allows(half_at(image, at + 2), header)
+        && kinds.c.allows(full_at(image, at + 4), header)
 }
 
 const GOTO: usize = 15;
@@ -242,13 +221,13 @@ fn addresses_end(image: &[u8]) -> Option<usize>
 }
 
 // The instructions from a place on.
-fn instructions_ok(image: &[u8], start: usize, s: Sizes) -> bool
+fn instructions_ok(image: &[u8], start: usize, header: Header) -> bool
     requires read { Read (ruleset_at image.now (byte image.now 7)) (2 ^ 20) start }
-    requires sizes { SizesOf image.now s }
-    requires small { s.size < 65536 }
+    requires front { HeaderOf image.now header }
+    requires small { header.size < 65536 }
     ensures { result ≡ every (program image.now).size (instruction_ok (program image.now)) }
 {
-    (0..s.size).all(|k| instruction_ok(image, start + 8 * k, s))
+    (0..header.size).all(|k| instruction_ok(image, start + 8 * k, header))
 }
 
 // "an opcode, argument, unused field, address or last instruction"
@@ -259,6 +238,6 @@ pub(crate) fn code_ok(image: &[u8]) -> bool
     let Some(start) = addresses_end(image) else {
         return false;
     };
-    let s = Sizes::of(image);
-    instructions_ok(image, start, s) && ends_ok(byte_at(image, start + 8 * (s.size - 1)))
+    let header = Header::of(image);
+    instructions_ok(image, start, header) && ends_ok(byte_at(image, start + 8 * (header.size - 1)))
 }

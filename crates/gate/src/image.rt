@@ -2,7 +2,7 @@
 ghost use Rattle.std.specs.Prelude.{◌≡◌, ◌≤◌, ◌<◌, ◌^◌, IfSome};
 ghost use Rattle.hume.specs.Image.{program, byte, half, full};
 ghost use Rattle.hume.specs.Refusals.{length_ok, counts_ok};
-ghost use Rattle.gate.specs.Parts.{Read, ranges_ok, counts_end};
+ghost use Rattle.gate.specs.Parts.{Read, HeaderOf, ranges_ok, counts_end};
 
 // Where ruleset k begins in the image, and its part in the rule order, to one past the 32nd.
 #[derive(Drop)]
@@ -49,17 +49,41 @@ pub(crate) fn length_ok(image: &[u8]) -> bool
     11 <= image.len() && full_at(image, 0) == image.len()
 }
 
-// "inputs (0..8), outputs (0..8), rulesets R (1..32)", "handler ruleset (below R, or 255 for none)", "instruction count N
-// (1..4096)"
-#[tactic(auto, unfolding(crate::specs::Parts::ranges_ok))]
-fn ranges_ok(inputs: usize, outputs: usize, rulesets: usize, handler: usize, size: usize) -> bool
-    ensures { result ≡ ranges_ok inputs outputs rulesets handler size }
-{
-    inputs <= 8
-        && outputs <= 8
-        && (1..=32).contains(&rulesets)
-        && (handler < rulesets || handler == 255)
-        && (1..=4096).contains(&size)
+// The numbers in front: "5 inputs (0..8), 6 outputs (0..8), 7 rulesets R (1..32), 8 handler ruleset (below R, or 255 for
+// none), 9-10 instruction count N (1..4096)."
+#[derive(Clone, Copy)]
+pub(crate) struct Header {
+    pub inputs: usize,
+    pub outputs: usize,
+    pub rulesets: usize,
+    pub handler: usize,
+    pub size: usize,
+}
+
+impl Header {
+    pub(crate) fn of(image: &[u8]) -> Header
+        ensures is { HeaderOf image.now result }
+        ensures small { result.size < 65536 }
+    {
+        Header {
+            inputs: byte_at(image, 5),
+            outputs: byte_at(image, 6),
+            rulesets: byte_at(image, 7),
+            handler: byte_at(image, 8),
+            size: half_at(image, 9),
+        }
+    }
+
+    #[tactic(auto, unfolding(crate::specs::Parts::ranges_ok))]
+    fn in_range(self) -> bool
+        ensures { result ≡ ranges_ok self.inputs self.outputs self.rulesets self.handler self.size }
+    {
+        self.inputs <= 8
+            && self.outputs <= 8
+            && (1..=32).contains(&self.rulesets)
+            && (self.handler < self.rulesets || self.handler == 255)
+            && (1..=4096).contains(&self.size)
+    }
 }
 
 // Where the first n rulesets end, if each has a rule count of 1..16.
@@ -83,19 +107,12 @@ fn rulesets_end(image: &[u8], n: usize) -> Option<usize>
 pub(crate) fn counts_ok(image: &[u8]) -> bool
     ensures { result ≡ counts_ok image.now (program image.now) }
 {
-    let rulesets = byte_at(image, 7);
-    let size = half_at(image, 9);
-    if !ranges_ok(
-        byte_at(image, 5),
-        byte_at(image, 6),
-        rulesets,
-        byte_at(image, 8),
-        size,
-    ) {
+    let header = Header::of(image);
+    if !header.in_range() {
         return false;
     }
-    let Some(end) = rulesets_end(image, rulesets) else {
+    let Some(end) = rulesets_end(image, header.rulesets) else {
         return false;
     };
-    end + 8 * size == image.len()
+    end + 8 * header.size == image.len()
 }

@@ -99,6 +99,7 @@ fn lent_verdict(
     Ok(())
 }
 
+// 1 to 8. Everything is lent slice by slice, as document 01 names it, and not in a struct.
 #[tactic(auto, unfolding(hume::specs::Call::refusal, hume::specs::Call::first_of))]
 pub fn verdict(
     image: &[u8],

@@ -14,9 +14,9 @@ pub instructions_ok-requires-clause-read : goal.instructions_ok-requires-clause-
 instructions_ok-requires-clause-read c =
     record { is = (found_place _ _ _ c.in-Some.ensures.is).is; small = c.in-Some.ensures.small }
 
-pub overflow_sub-s : goal.overflow_sub-s
+pub overflow_sub-header : goal.overflow_sub-header
 unfolding program
-overflow_sub-s c = rw c.of-s.ensures.is c.requires
+overflow_sub-header c = rw c.of-header.ensures.is c.requires
 
 pub returns-then-instructions_ok : goal.returns-then-instructions_ok
 unfolding code_ok
@@ -24,7 +24,7 @@ returns-then-instructions_ok c =
     let f = found_place _ _ _ c.in-Some.ensures.is in
     c.ends_ok.ensures ∙ ap ends_ok c.byte_at.ensures.is
     ∙ sym (and_yes _ _ f.passes ∙ and_yes _ _ (sym c.instructions_ok.ensures ∙ c.if-instructions_ok.true)
-    ∙ last_is _ _ _ f.is c.of-s.ensures.is)
+    ∙ last_is _ _ _ f.is c.of-header.ensures.is)
 
 pub returns-else-instructions_ok : goal.returns-else-instructions_ok
 unfolding code_ok

@@ -11,7 +11,7 @@ pub returns : goal.returns
 returns c =
     let m = c.args.image.now in
     let start = c.args.start in
-    all_from_yields_List (λ k. fields_ok (sized c.args.s) (byte m (start + 8 * k)) (byte m (start + 8 * k + 1))
+    all_from_yields_List (λ k. fields_ok (sized c.args.header) (byte m (start + 8 * k)) (byte m (start + 8 * k + 1))
     (half m (start + 8 * k + 2)) (full m (start + 8 * k + 4))) _ _ c.all.result c.all.ensures.ran
-    (YieldsList-from_range 0 c.args.s.size c.args.s.size refl (omega arith)) (λ x b q k. search rules)
-    ∙ every_is _ _ ∙ instructions_are m start c.args.s c.requires.read.is c.requires.sizes
+    (YieldsList-from_range 0 c.args.header.size c.args.header.size refl (omega arith)) (λ x b q k. search rules)
+    ∙ every_is _ _ ∙ instructions_are m start c.args.header c.requires.read.is c.requires.front
