@@ -26,6 +26,7 @@ use Rattle.gate.specs.Parts.{LaidOut}
 use Rattle.engine.specs.Turns.{Bears, core, Buffers, buffers}
 use Rattle.engine.specs.Fits.{Located, Imaged}
 use Rattle.engine.specs.Tables.{Placed}
+use Rattle.engine.specs.Outcomes.{Handled}
 use Rattle.engine.specs.Ready.{Fixing}
 use Rattle.engine.specs.declared.stepping.Fixed.{Fixed}
 use Rattle.engine.specs.Running.{run_of, Going, Over}
@@ -153,21 +154,20 @@ module _ {m : List ℕ} (i : Imaged m) where
       by (absent p) = absurd (n (e ∙ p))
       by (present p) = omega (arith, e, p)
 
+  pub handler_is : (program m).handler ≡ get_or m 8 0
+  unfolding byte program
+  handler_is = refl
+
   pub fixed : {at : List ℕ} (f : Fixed) → Placed m at → f.code ≡ get_or at (get_or m 7 0) 0 → f.inputs ≡ get_or m 5 0
-      → f.outputs ≡ get_or m 6 0 → f.handler ≡ get_or m 8 0 → ((f.handler ≡ 255 → ⊥) → (program m).entry f.handler ≡ f.entry)
-      → Fixing m f
+      → f.outputs ≡ get_or m 6 0 → Handled (program m) f.handler → Fixing m f
   unfolding byte program code_at
-  fixed {at} f p c n o h e =
+  fixed {at} f p c n o h =
       record {
         code = c ∙ p.places (get_or m 7 0) (let x = rulesets_most in omega arith) ∙ omega arith;
         inputs = n;
         outputs = o;
-        handled = record { handler_is = sym h; entry_is = e };
+        handled = h;
       }
-
-  pub handler_is : (program m).handler ≡ get_or m 8 0
-  unfolding byte program
-  handler_is = refl
 
 -- ---- the whole call
 

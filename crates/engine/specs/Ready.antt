@@ -17,7 +17,7 @@ pub record Fixing (m : List ℕ) (f : Fixed) : Type 0 where
   pub code : f.code ≡ code_at m 0
   pub inputs : f.inputs ≡ (program m).inputs
   pub outputs : f.outputs ≡ (program m).outputs
-  pub handled : Handled (program m) f.handler f.entry
+  pub handled : Handled (program m) f.handler
 
 pub record Ready (m card at orders : List ℕ) (lim : Limits) (f : Fixed) (r : Regs) (b : Buffers) : Type 0 where
   pub fit : Fit lim r

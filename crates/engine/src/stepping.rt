@@ -5,34 +5,44 @@ ghost use Rattle.hume.specs.Machine.{machine};
 ghost use Rattle.engine.specs.Turns.{Meets, buffers};
 ghost use Rattle.engine.specs.Fits.{Imaged};
 ghost use Rattle.engine.specs.Tables.{Placed};
-ghost use Rattle.engine.specs.Outcomes.{cycle_table};
+ghost use Rattle.engine.specs.Outcomes.{Handled, cycle_table};
 ghost use Rattle.engine.specs.Ready.{Ready, Fixing};
 
 use super::image::{a_at, b_at, c_at, entry_of, opcode_at};
 use super::regs::{Limits, Regs, Turn};
 use arith::canonical;
 
-// What is found once of an image: where its instructions begin, how many wires it has, and its handler with its entry.
+// The ruleset that handles exceptions, and where it is entered.
+#[derive(Clone, Copy)]
+pub struct Handler {
+    pub ruleset: usize,
+    pub entry: usize,
+}
+
+// What is found once of an image: where its instructions begin, how many wires it has, and its handler.
 #[derive(Clone, Copy)]
 pub struct Fixed {
     pub code: usize,
     pub inputs: usize,
     pub outputs: usize,
-    pub handler: usize,
-    pub entry: usize,
+    pub handler: Option<Handler>,
 }
 
-// The entry of the handler, where there is one.
-fn handler_entry(image: &[u8], at: &[usize], handler: usize) -> usize
+// "handler ruleset (255 none)"
+fn handler_of(image: &[u8], at: &[usize]) -> Option<Handler>
     requires imaged { Imaged image.now }
     requires placed { Placed image.now at.now }
-    requires handler_value { handler ≡ (program image.now).handler }
-    ensures { (handler ≡ 255 → ⊥) → (program image.now).entry handler ≡ result }
+    requires in_bounds { 11 ≤ length image.now }
+    ensures { Handled (program image.now) result }
 {
-    if handler == 255 {
-        return 0;
+    let ruleset = image[8] as usize;
+    if ruleset == 255 {
+        return None;
     }
-    entry_of(image, at, handler)
+    Some(Handler {
+        ruleset,
+        entry: entry_of(image, at, ruleset),
+    })
 }
 
 // What is found once of an accepted image.
@@ -43,17 +53,11 @@ pub(crate) fn fix(image: &[u8], at: &[usize]) -> Fixed
     ensures { Fixing image.now result }
 {
     let rulesets = image[7] as usize;
-    let handler = image[8] as usize;
-    let inputs = image[5] as usize;
-    let outputs = image[6] as usize;
-    let code = at[rulesets];
-    let entry = handler_entry(image, at, handler);
     Fixed {
-        code,
-        inputs,
-        outputs,
-        handler,
-        entry,
+        code: at[rulesets],
+        inputs: image[5] as usize,
+        outputs: image[6] as usize,
+        handler: handler_of(image, at),
     }
 }
 
@@ -122,7 +126,6 @@ impl Regs {
                 a_at(image, code, pc),
                 b_at(image, code, pc) as u32,
                 fixed.handler,
-                fixed.entry,
                 table,
                 stack,
                 heap,
