@@ -4,14 +4,17 @@ use mathlib.Core.Bool.{Bool, true, false, ◌&&◌, ◌||◌}
 use mathlib.Core.List.{List}
 use Prim.Native.Nat.{ℕ, ◌+◌, ◌*◌, ◌/◌, ◌%◌, ◌^◌, ◌<◌}
 use native.Mathlib.Omega.{arith}
+use Rattle.std.proofs.Common.{rules, tests}
 use lib.Dec.{T, eqb, eqb→eq}
 use lib.ListN.{length, get_or}
 use borrow.Author.Tests.{eq-eqb, ne_eqb}
+use Rattle.std.specs.Prelude.{Option, Some, None}
 use Rattle.hume.specs.Words.{Word, null, none, bits, is_null, is_ref, is_none, is_value}
 use Rattle.hume.specs.State.{number_at, is_cell, second}
 use Rattle.laws.specs.Sizes.{Small}
 use Rattle.laws.proofs.Tests.{and_both, eqb_of}
 use Rattle.laws.proofs.Words.{none_is, null_is}
+use Rattle.engine.specs.Kinds.{place_of}
 use Rattle.engine.specs.Turns.{Bears}
 
 -- two tests of which each passes where the other does
@@ -34,6 +37,13 @@ bits_none = omega arith
 pub bits_null : bits null ≡ 0
 unfolding bits
 bits_null = omega arith
+
+-- the place that they are a reference to
+pub place_none : (x : ℕ) {o : Option ℕ} → o ≡ place_of x → o ≡ None → x / 2 ^ 28 ≡ 1 → ⊥
+place_none x e n k = grind (arith, tests)
+
+pub place_some : (x : ℕ) {o : Option ℕ} {p : ℕ} → o ≡ place_of x → o ≡ Some p → (x / 2 ^ 28 ≡ 1) × (p ≡ x % 2 ^ 28)
+place_some x {o} {p} e s = search (rules, tests)
 
 -- of a word of any size
 pub low_byte : {n : ℕ} (w : Word) → n ≡ bits w → n % 256 ≡ w.payload % 256

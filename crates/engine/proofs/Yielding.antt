@@ -3,6 +3,7 @@ use mathlib.Core.Path.{◌≡◌, refl, sym, ap, ◌∙◌, subst}
 use mathlib.Core.Bool.{Bool, true, false, ◌&&◌, ◌||◌, true≢false}
 use mathlib.Core.List.{List, [], ◌∷◌, ◌++◌, append_assoc}
 use mathlib.Core.Option.{Option, none, some}
+use Rattle.std.specs.Prelude.{Some, Ok, Err}
 use Prim.Native.Nat.{ℕ, zero, suc, ◌+◌, ◌-◌, ◌/◌, ◌%◌, ◌^◌, ◌≤◌, ◌<◌}
 use native.Mathlib.Nat.{not-suc-le-zero}
 use native.Mathlib.Decide.{ℕ_discrete}
@@ -27,14 +28,15 @@ use Rattle.laws.proofs.Words.{bits_raw}
 use Rattle.engine.specs.Fits.{Fit}
 use Rattle.engine.specs.Turns.{Bears, core, Holds, halt, Buffers, buffers, Turned, Meets, priced}
 use Rattle.engine.specs.Blocks.{making}
-use Rattle.engine.specs.Outcomes.{valued, wrongly, raised, given, tried, kept, quotient, whole, cutting, settled}
-use Rattle.engine.specs.Outcomes.{results, throws, dealing, dealt, Deals, Fair, cycle_table, Handled}
+use Rattle.engine.specs.Outcomes.{Outcome, valued, wrongly, raised, given, tried, kept, quotient, whole, cutting}
+use Rattle.engine.specs.Outcomes.{operands, results, throws, troubled, dealt, Deals, Fair, cycle_table, Handled}
 use Rattle.engine.specs.declared.Ending.TheVariants as ending
-use Rattle.engine.specs.declared.prims.Outcome.{Outcome}
 use Rattle.engine.specs.declared.regs.Limits.{Limits}
 use Rattle.engine.specs.declared.regs.Regs.{Regs}
 use Rattle.engine.specs.declared.regs.Turn.{Turn}
-use Rattle.engine.specs.declared.prims.Yielded.{Yielded}
+use Rattle.engine.specs.declared.prims.Cell.{Cell}
+use Rattle.engine.specs.declared.prims.Trouble.{Trouble}
+use Rattle.engine.specs.declared.image.Handler.{Handler}
 use Rattle.engine.proofs.After.{after, built}
 use Rattle.engine.proofs.Turning.{Leads, stops, turned_as, lead_grown, values_are}
 use Rattle.engine.proofs.Areas.{bears_push, locals_take}
@@ -94,7 +96,7 @@ unfolding pick
 given_pick p true u w = refl
 given_pick p false u w = refl
 
-module _ (p : ℕ → Primitive) (a h x y : ℕ) {q : Yielded} where
+module _ (p : ℕ → Primitive) (a h x y : ℕ) {q : Outcome} where
   -- a primitive that gives the value u
   pub arm : (k v u : ℕ) → p a ≡ p k → q ≡ kept h (p k).takes (p k).gives v → v ≡ u → (p k).yields x y ≡ value u
       → q ≡ tried (p a) (eqb h (p a).takes) x y
@@ -111,7 +113,7 @@ module _ (p : ℕ → Primitive) (a h x y : ℕ) {q : Yielded} where
       ∙ ap (λ (n : ℕ). pick (eqb h int_header) (pick (eqb y 0) (raised 1) (valued int_header n)) wrongly) z
       ∙ sym
       (ap (λ (g : Primitive). tried g (eqb h g.takes) x y) (e ∙ w)
-      ∙ ap (λ (g : Yielded). pick (eqb h int_header) g wrongly)
+      ∙ ap (λ (g : Outcome). pick (eqb h int_header) g wrongly)
       (given_pick (record { cycles = (p k).cycles; takes = int_header; gives = int_header; yields = divided f }) (eqb y 0) (raises 1) (value (f x y))))
 
   -- none
@@ -125,14 +127,14 @@ unfolding prim1 one_operand converted
 given_cut none = refl
 given_cut (some n) = refl
 
-pub arm_cut : (a h x : ℕ) {q : Yielded} (o : Option ℕ) → a ≡ 3 → q ≡ cutting h o → o ≡ to_int x
+pub arm_cut : (a h x : ℕ) {q : Outcome} (o : Option ℕ) → a ≡ 3 → q ≡ cutting h o → o ≡ to_int x
     → q ≡ tried (prim1 a) (eqb h (prim1 a).takes) x 0
 unfolding tried cutting prim1 one_operand
 arm_cut a h x {q} o e d z =
     d
     ∙ sym
     (ap (λ (i : ℕ). tried (prim1 i) (eqb h (prim1 i).takes) x 0) e
-    ∙ ap (λ (g : Yielded). pick (eqb h float_header) g wrongly) (given_cut (to_int x) ∙ ap whole (sym z)))
+    ∙ ap (λ (g : Outcome). pick (eqb h float_header) g wrongly) (given_cut (to_int x) ∙ ap whole (sym z)))
 
 -- two operands of different kinds, and of the same
 pub unlike : (p : Primitive) (h g x y : ℕ) → (h ≡ g → ⊥)
@@ -149,7 +151,7 @@ and_same : (b : Bool) → b ≡ (b && b)
 and_same true = refl
 and_same false = refl
 
-pub alike : (p : Primitive) (h g x y : ℕ) {q : Yielded} → h ≡ g → q ≡ tried p (eqb h p.takes) x y
+pub alike : (p : Primitive) (h g x y : ℕ) {q : Outcome} → h ≡ g → q ≡ tried p (eqb h p.takes) x y
     → q ≡ tried p (eqb h p.takes && eqb g p.takes) x y
 alike p h g x y e d =
     d
@@ -313,40 +315,25 @@ tame_two a = tames_at two_operands tames_two (a - 1)
 
 -- ---- what an application comes to
 
-module _ (r : Regs) where
-  pub fair_fault : (o : Outcome) → 0 < o.fault → Fair r o
-  fair_fault o l =
-      record {
-        lower = λ e f. absurd (let z : ⊥ = omega (arith, l, e) in z);
-        number = λ e f. absurd (let z : ⊥ = omega (arith, l, e) in z);
-      }
-
-  pub fair_raises : (o : Outcome) → o.raises ≡ true → o.head < 65536 → Fair r o
-  fair_raises o t l = record { lower = λ e f. absurd (true≢false (sym t ∙ f)); number = λ e f. l }
-
-  fair_value : (o : Outcome) → o.raises ≡ false → r.lp ≤ o.low → o.low < r.sp → Fair r o
-  fair_value o t l m = record { lower = λ e f. (l, m); number = λ e f. absurd (true≢false (sym f ∙ t)) }
-
-  pub fair_tried : (p : Primitive) → Tame p → (ok : Bool) (x y low : ℕ) {o : Outcome} → o ≡ settled low (tried p ok x y)
-      → r.lp ≤ low → low < r.sp → Fair r o
-  unfolding tried pick
-  fair_tried p t ok x y low {o} e l m = subst (Fair r) (sym e) (by ok (p.yields x y) (t.each x y))
-    where
-      by : (b : Bool) (u : Yield) → ((n : ℕ) → u ≡ raises n → n < 65536)
-          → Fair r (settled low (pick b (given p u) wrongly))
-      by false u k = fair_fault (settled low wrongly) (omega arith)
-      by true (value v) k = fair_value (settled low (valued p.gives v)) refl l m
-      by true (raises n) k = fair_raises (settled low (raised n)) refl (k n refl)
+pub fair_tried : (r : Regs) (p : Primitive) → Tame p → (ok : Bool) (x y n : ℕ) {o : Outcome} → o ≡ tried p ok x y
+    → r.lp + n ≤ r.sp → Fair r n o
+unfolding tried pick
+fair_tried r p t ok x y n {o} e l = subst (Fair r n) (sym e) (by ok (p.yields x y) (t.each x y))
+  where
+    by : (b : Bool) (u : Yield) → ((m : ℕ) → u ≡ raises m → m < 65536) → Fair r n (pick b (given p u) wrongly)
+    by false u k = tt
+    by true (value v) k = l
+    by true (raises m) k = k m refl
 
 yield_deal : (P : Program) (s : State) (n low : ℕ) (p : Primitive) (u : Yield) → low ≡ length s.stack - n
-    → resulted P s n p u ≡ dealt P p.cycles (settled low (given p u)) s
+    → resulted P s n p u ≡ dealt P p.cycles low (given p u) s
 unfolding resulted without raw
 yield_deal P s n low p (value x) e =
     ap (λ (i : ℕ). builds s p.cycles (take i s.stack) (raw p.gives ∷ raw x ∷ [])) (sym e)
 yield_deal P s n low p (raises k) e = refl
 
 prim_deal : (P : Program) (s : State) (n low : ℕ) (p : Primitive) (ok : Bool) (x y : ℕ) → low ≡ length s.stack - n
-    → need ok 2 (resulted P s n p (p.yields x y)) ≡ dealt P p.cycles (settled low (tried p ok x y)) s
+    → need ok 2 (resulted P s n p (p.yields x y)) ≡ dealt P p.cycles low (tried p ok x y) s
 unfolding need tried pick
 prim_deal P s n low p true x y e = yield_deal P s n low p (p.yields x y) e
 prim_deal P s n low p false x y e = refl
@@ -390,15 +377,15 @@ module _ {r : Regs} {st he : List ℕ} {ws hs : List Word} (h : Holds r st he ws
           ∙ need_no (operand_ok s (prim1 a) 0) 2 _ (λ b. true≢false (sym (to_true b) ∙ operand_no 0 w e k (prim1 a) t))
 
       pub one_is : (x y : ℕ) → r.lp < r.sp → w / 2 ^ 28 ≡ 1 → w % 2 ^ 28 + 2 ≤ r.hp → x ≡ get_or he (w % 2 ^ 28) 0
-          → y ≡ get_or he (w % 2 ^ 28 + 1) 0 → (o : Outcome) → o ≡ settled (r.sp - 1) (tried (prim1 a) (eqb x (prim1 a).takes) y 0)
-          → CallPrim1 P a s ≡ dealt P (prim1 a).cycles o s
+          → y ≡ get_or he (w % 2 ^ 28 + 1) 0 → (o : Outcome) → o ≡ tried (prim1 a) (eqb x (prim1 a).takes) y 0
+          → CallPrim1 P a s ≡ dealt P (prim1 a).cycles (r.sp - 1) o s
       unfolding CallPrim1
       one_is x y v t l p q o d =
           need_yes (leb 1 (values s)) 1 _ (enough 1 (omega arith))
           ∙ ap (λ (b : Bool). need b 2 (resulted P s 1 (prim1 a) ((prim1 a).yields (operand s 0) 0))) (operand_ok_lem 0 w e k (prim1 a) t l x p)
           ∙ ap (λ (n : ℕ). need (eqb x (prim1 a).takes) 2 (resulted P s 1 (prim1 a) ((prim1 a).yields n 0))) (operand_is 0 w e k (prim1 a) t l y q)
           ∙ prim_deal P s 1 (r.sp - 1) (prim1 a) (eqb x (prim1 a).takes) y 0 (ap (λ (n : ℕ). n - 1) h.sp)
-          ∙ ap (λ (z : Outcome). dealt P (prim1 a).cycles z s) (sym d)
+          ∙ ap (λ (z : Outcome). dealt P (prim1 a).cycles (r.sp - 1) z s) (sym d)
 
     pub two_few : r.sp - r.lp < 2 → CallPrim2 P a s ≡ ends (fault 1)
     unfolding CallPrim2
@@ -421,8 +408,8 @@ module _ {r : Regs} {st he : List ℕ} {ws hs : List Word} (h : Holds r st he ws
 
       pub two_is : (x0 y0 x1 y1 : ℕ) → w / 2 ^ 28 ≡ 1 → v / 2 ^ 28 ≡ 1 → w % 2 ^ 28 + 2 ≤ r.hp → v % 2 ^ 28 + 2 ≤ r.hp
           → x0 ≡ get_or he (w % 2 ^ 28) 0 → y0 ≡ get_or he (w % 2 ^ 28 + 1) 0 → x1 ≡ get_or he (v % 2 ^ 28) 0 → y1 ≡ get_or he (v % 2 ^ 28 + 1) 0
-          → (o : Outcome) → o ≡ settled (r.sp - 2) (tried (prim2 a) (eqb x0 (prim2 a).takes && eqb x1 (prim2 a).takes) y0 y1)
-          → CallPrim2 P a s ≡ dealt P (prim2 a).cycles o s
+          → (o : Outcome) → o ≡ tried (prim2 a) (eqb x0 (prim2 a).takes && eqb x1 (prim2 a).takes) y0 y1
+          → CallPrim2 P a s ≡ dealt P (prim2 a).cycles (r.sp - 2) o s
       unfolding CallPrim2
       two_is x0 y0 x1 y1 t u l n p0 q0 p1 q1 o d =
           need_yes (leb 2 (values s)) 1 _ (enough 2 m)
@@ -435,7 +422,7 @@ module _ {r : Regs} {st he : List ℕ} {ws hs : List Word} (h : Holds r st he ws
           ∙ ap (λ (z : ℕ). need (eqb x0 (prim2 a).takes && eqb x1 (prim2 a).takes) 2 (resulted P s 2 (prim2 a) ((prim2 a).yields y0 z)))
           (operand_is 1 v g j (prim2 a) u n y1 q1)
           ∙ prim_deal P s 2 (r.sp - 2) (prim2 a) (eqb x0 (prim2 a).takes && eqb x1 (prim2 a).takes) y0 y1 (ap (λ (z : ℕ). z - 2) h.sp)
-          ∙ ap (λ (z : Outcome). dealt P (prim2 a).cycles z s) (sym d)
+          ∙ ap (λ (z : Outcome). dealt P (prim2 a).cycles (r.sp - 2) z s) (sym d)
 
   module _ (P : Program) (b : ℕ) where
     pub raise_few : r.sp ≤ r.lp → Raise P b s ≡ ends (fault 1)
@@ -505,24 +492,23 @@ module _ {r : Regs} {st he : List ℕ} {ws hs : List Word} (h : Holds r st he ws
       (sym (take_all r.sp ws (omega (arith, h.sp))))
 
   -- an exception with no handler
-  pub unhandled_stops : (lim : Limits) (P : Program) (t k e w handler entry : ℕ) {b : Buffers} {q : Turn}
-      → Handled P handler entry → handler ≡ 255 → q ≡ halt r (ending.Unhandled e)
+  pub unhandled_stops : (lim : Limits) (P : Program) (t k e w : ℕ) {b : Buffers} {q : Turn}
+      → P.handler ≡ 255 → q ≡ halt r (ending.Unhandled e)
       → Turned lim r b (priced t (throws P k e w) (core r ws hs wi or false)) q b
   unfolding raise
-  unhandled_stops lim P t k e w handler entry {b} {q} d z p =
+  unhandled_stops lim P t k e w {b} {q} d p =
       stops t lim r b (core r ws hs wi or false) (unhandled e)
-      (pick_true (eqb P.handler 255) _ _ (of_true (eq-eqb P.handler 255 (d.handler_is ∙ z)))) p
+      (pick_true (eqb P.handler 255) _ _ (of_true (eq-eqb P.handler 255 d))) p
 
-  pub raise_leads : (P : Program) (cost t k e w handler entry : ℕ) → Handled P handler entry → (handler ≡ 255 → ⊥)
-      → cost ≡ t + k
-      → Leads cost (priced t (throws P k e w) (core r ws hs wi or false)) (entered r handler entry) (thrown (length hs))
+  pub raise_leads : (P : Program) (cost t k e w : ℕ) (y : Handler) → Handled P (Some y) → cost ≡ t + k
+      → Leads cost (priced t (throws P k e w) (core r ws hs wi or false)) (entered r y.ruleset y.entry) (thrown (length hs))
       (hs ++ raw (exn_header e) ∷ raw 1 ∷ raw w ∷ []) wi or
   unfolding raise locals pick
-  raise_leads P cost t k e w handler entry d n c =
-      let i : P.handler ≡ handler = d.handler_is in
-      let j : P.entry P.handler ≡ entry = ap P.entry i ∙ d.entry_is n in
-      lead_grown t (core r ws hs wi or false) (entered r handler entry) cost k (raw (exn_header e) ∷ raw 1 ∷ raw w ∷ [])
-      (pick_false (eqb P.handler 255) _ _ (λ z. n (sym i ∙ eqb→eq P.handler 255 z))
+  raise_leads P cost t k e w x d c =
+      let i : P.handler ≡ x.ruleset = d.0 in
+      let j : P.entry P.handler ≡ x.entry = ap P.entry i ∙ d.2 in
+      lead_grown t (core r ws hs wi or false) (entered r x.ruleset x.entry) cost k (raw (exn_header e) ∷ raw 1 ∷ raw w ∷ [])
+      (pick_false (eqb P.handler 255) _ _ (λ z. d.1 (sym i ∙ eqb→eq P.handler 255 z))
       ∙ (λ y. goes k
       (leaving (core r ws hs wi or false)
       (record { pc = j y; fp = 5; slp = 0; rp = 0; mp = r.mp; inp = r.inp; rs = i y })
@@ -532,21 +518,19 @@ module _ {r : Regs} {st he : List ℕ} {ws hs : List Word} (h : Holds r st he ws
 
 -- ---- the application whole
 
--- the deed of an outcome that is no fault, by whether it raises
-pub deal_goes : (P : Program) (k : ℕ) (o : Outcome) {b : Bool} → o.fault ≡ 0 → o.raises ≡ b
-    → dealt P k o ≡ dealing P k 0 b o.low o.head o.tail
-deal_goes P k o e f = λ i. dealing P k (e i) (f i) o.low o.head o.tail
+-- the deed of an outcome, by which it is
+module _ (P : Program) (k : ℕ) {o : Outcome} where
+  pub deal_result : (sp op : ℕ) {n m : ℕ} {x : Cell} → o ≡ Ok x → m ≡ operands op → operands op ≡ n
+      → dealt P k (sp - n) o ≡ results k (sp - m) x.header x.payload
+  deal_result sp op {n} {m} {x} e f g =
+      ap (dealt P k (sp - n)) e ∙ ap (λ (i : ℕ). results k (sp - i) x.header x.payload) (sym (f ∙ g))
 
-pub deal_faults : (P : Program) (k : ℕ) (o : Outcome) → (o.fault ≡ 0 → ⊥) → dealt P k o ≡ (λ s. ends (fault o.fault))
-deal_faults P k o n = by o.fault n
-  where
-    by : (m : ℕ) → (m ≡ 0 → ⊥) → dealing P k m o.raises o.low o.head o.tail ≡ (λ s. ends (fault m))
-    by zero z = absurd (z refl)
-    by (suc m) z = refl
+  pub deal_trouble : (low : ℕ) {t u : Trouble} → o ≡ Err t → t ≡ u → dealt P k low o ≡ troubled P k u
+  deal_trouble low e f = ap (dealt P k low) e ∙ ap (troubled P k) f
 
 -- an instruction meets what its outcome does
-pub deals_meet : {lim : Limits} {r : Regs} {st he : List ℕ} {k : ℕ} {deed : Program → State → Deed} {o : Outcome} {act : State → Deed} {q : Turn} {b : Buffers} (P : Program) (t : ℕ) (wi or : List ℕ)
-    → Deals r st he k deed o → dealt P k o ≡ act
+pub deals_meet : {lim : Limits} {r : Regs} {st he : List ℕ} {n k : ℕ} {deed : Program → State → Deed} {o : Outcome} {act : State → Deed} {q : Turn} {b : Buffers} (P : Program) (t : ℕ) (wi or : List ℕ)
+    → Deals r st he n k deed o → dealt P k (r.sp - n) o ≡ act
     → Meets lim r (buffers st he wi or) (priced t act) q b → Meets lim r (buffers st he wi or) (priced t (deed P)) q b
 deals_meet {r = r} P t wi or d e m =
     record {

@@ -10,3 +10,4 @@ pub mod Attempts
 pub mod Copies
 pub mod Blocks
 pub mod Outcomes
+pub mod Kinds

@@ -5,7 +5,14 @@ ghost use Rattle.std.proofs.Props.{props};
 ghost use Rattle.hume.specs.Image.{program, code_at, order_at, half as half_of, full as full_of};
 ghost use Rattle.laws.specs.Accepted.{CardFits, OrderFits};
 ghost use Rattle.engine.specs.Fits.{Imaged, Located, Handler-prop};
-ghost use Rattle.engine.specs.Outcomes.{cycle_table, Handled};
+ghost use Rattle.engine.specs.Outcomes.{cycle_table, Handled, Handled-prop};
+
+// The ruleset that handles exceptions, and where it is entered.
+#[derive(Clone, Copy)]
+pub struct Handler {
+    pub ruleset: usize,
+    pub entry: usize,
+}
 
 // What a run goes by and never writes: an accepted image, where each ruleset's table and its order begin, the card, Table 5,
 // where the instructions begin, how many wires there are, and the handler with its entry.
@@ -19,8 +26,7 @@ pub struct Code<'a> {
     pub start: usize,
     pub inputs: usize,
     pub outputs: usize,
-    pub handler: usize,
-    pub entry: usize,
+    pub handler: Option<Handler>,
     pub ghost imaged: { Imaged image.now } by { Prim.hlevel (props, Handler-prop) },
     pub ghost located: { Located image.now at.now orders.now },
     pub ghost prices: { CardFits card.now },
@@ -30,7 +36,7 @@ pub struct Code<'a> {
     pub ghost instructions: { start + 8 * (program image.now).size ≡ length image.now },
     pub ghost wires_in: { inputs ≡ (program image.now).inputs },
     pub ghost wires_out: { outputs ≡ (program image.now).outputs },
-    pub ghost handled: { Handled (program image.now) handler entry },
+    pub ghost handled: { Handled (program image.now) handler } by { Prim.hlevel (props, Handled-prop) },
 }
 
 fn byte(image: &[u8], i: usize) -> usize
@@ -73,11 +79,15 @@ impl<'a> Code<'a> {
         let start = at[byte(image, 7)];
         let inputs = byte(image, 5);
         let outputs = byte(image, 6);
-        let handler = byte(image, 8);
-        let entry = if handler == 255 {
-            0
+        let ruleset = byte(image, 8);
+        // "handler ruleset (255 none)"
+        let handler = if ruleset == 255 {
+            None
         } else {
-            half(image, at[handler])
+            Some(Handler {
+                ruleset,
+                entry: half(image, at[ruleset]),
+            })
         };
         Code {
             image,
@@ -89,7 +99,6 @@ impl<'a> Code<'a> {
             inputs,
             outputs,
             handler,
-            entry,
         }
     }
 

@@ -61,7 +61,6 @@ impl Regs {
                 code.a_at(pc),
                 code.b_at(pc) as u32,
                 code.handler,
-                code.entry,
                 code.cycles,
                 stack,
                 heap,

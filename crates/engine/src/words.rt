@@ -2,6 +2,14 @@
 ghost use Rattle.std.specs.Prelude.{◌≡◌, ◌||◌};
 ghost use Rattle.hume.specs.Words.{Word, bits, is_null, is_value};
 ghost use Rattle.laws.specs.Sizes.{Small};
+ghost use Rattle.engine.specs.Kinds.{place_of as place};
+
+// "A stack or field word is type × 2^28 + payload": a reference to the place 0; None; a frame link with fp 0 and n 0.
+pub(crate) const REFERENCE: u32 = 1 << 28;
+
+pub(crate) const NONE: u32 = 2 << 28;
+
+pub(crate) const LINK: u32 = 6 << 28;
 
 // Headers: "The header is kind × 65536 + tag"; a Constr or an Exn adds its tag.
 pub(crate) const BOOL: u32 = 1 << 16;
@@ -16,22 +24,26 @@ pub(crate) const CONSTR: u32 = 5 << 16;
 
 pub(crate) const EXN: u32 = 6 << 16;
 
+// The heap place that a reference is to.
+pub(crate) fn place_of(w: u32) -> Option<usize>
+    ensures { result ≡ place w }
+{
+    if w / REFERENCE != 1 {
+        return None;
+    }
+    Some((w % REFERENCE) as usize)
+}
+
 // "a reference or None"
 pub(crate) fn is_value(w: u32) -> bool
     ensures { (v : Word) → w ≡ bits v → Small v → result ≡ is_value v }
 {
-    if w / 268435456 == 1 {
-        return true;
-    }
-    w == 536870912
+    w / REFERENCE == 1 || w == NONE
 }
 
 // "null, a reference or None"
 pub(crate) fn is_plain(w: u32) -> bool
     ensures { (v : Word) → w ≡ bits v → Small v → result ≡ (is_null v || is_value v) }
 {
-    if w == 0 {
-        return true;
-    }
-    is_value(w)
+    w == 0 || is_value(w)
 }

@@ -1,4 +1,3 @@
-use Prim.Native.Nat.{◌-◌, ◌≤◌}
 use Rattle.engine.specs.Blocks.{Placed, from_top}
 use Rattle.engine.proofs.builds.put_fields.Given as goal
 

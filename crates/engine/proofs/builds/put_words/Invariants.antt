@@ -1,4 +1,3 @@
-use Prim.Native.Nat.{◌-◌, ◌≤◌}
 use Rattle.engine.specs.Blocks.{Placed, from_place}
 use Rattle.engine.proofs.builds.put_words.Given as goal
 

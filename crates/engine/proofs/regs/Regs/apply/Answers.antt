@@ -1,68 +1,49 @@
-use mathlib.Core.Path.{ap}
-use native.Mathlib.Omega.{arith}
+use mathlib.Core.Path.{◌≡◌, ap}
 use Prim.Native.Nat.{ℕ, ◌+◌}
-use Rattle.engine.proofs.Yielding.{deal_goes, deal_faults, deals_meet, fault_meets}
+use Rattle.engine.specs.Outcomes.{operands}
+use Rattle.engine.specs.declared.prims.Trouble.TheVariants.{Fault, Raises}
+use Rattle.engine.proofs.Yielding.{deal_result, deal_trouble, deals_meet, fault_meets}
 use Rattle.engine.proofs.regs.Regs.apply.Goals as goal
 
-pub try_any-o-requires : goal.try_any-o-requires
-try_any-o-requires c =
-    let f = c.requires.fit in record {
-      lp_le_sp = (f.lp, omega (arith, f.sp, c.requires.stack_in_bounds), omega (arith, f.hp, c.requires.heap_in_bounds));
-      refs = c.requires.refs;
-      b_bound = c.requires.b_bound;
-    }
-
-pub returns-then-o-ne0 : goal.returns-then-o-ne0
-returns-then-o-ne0 c =
-    let o = c.try_any-o.ensures in record {
-      prim1 = λ P wi or d e. deals_meet P _ wi or (o.one e) (deal_faults P _ _ c.if-o-ne0.true) (fault_meets _ _ c.halt.ensures);
-      prim2 = λ P wi or d e. deals_meet P _ wi or (o.two e) (deal_faults P _ _ c.if-o-ne0.true) (fault_meets _ _ c.halt.ensures);
-      raise = λ P wi or d e. deals_meet P _ wi or (o.three e) (deal_faults P _ _ c.if-o-ne0.true) (fault_meets _ _ c.halt.ensures);
-    }
-
-pub raise-requires : goal.raise-requires
-raise-requires c =
+pub returns-in-Ok : goal.returns-in-Ok
+returns-in-Ok c =
+    let o = c.try_any-tried.ensures in
+    let time = λ (n : ℕ). c.args.cost + n in
     record {
-      fit = c.requires.fit;
-      stack_in_bounds = c.requires.stack_in_bounds;
-      heap_in_bounds = c.requires.heap_in_bounds;
-      e_bound = c.try_any-o.ensures.fair.number c.if-o-ne0.false c.if-o.true;
-    }
-
-pub returns-then-o : goal.returns-then-o
-returns-then-o c =
-    let o = c.try_any-o.ensures in record {
       prim1 = λ P wi or d e.
-          deals_meet P _ wi or (o.one e) (deal_goes P _ _ c.if-o-ne0.false c.if-o.true)
-          (c.raise.ensures P _ _ wi or d (ap (λ (n : ℕ). c.args.cost + n) (c.cycles.ensures.one e)));
+          deals_meet P _ wi or (o.one e) (deal_result P _ _ _ c.in-Ok.is c.operands.ensures (ap operands e))
+          (c.give.ensures _ _ wi or (ap time (c.cycles.ensures.one e)));
       prim2 = λ P wi or d e.
-          deals_meet P _ wi or (o.two e) (deal_goes P _ _ c.if-o-ne0.false c.if-o.true)
-          (c.raise.ensures P _ _ wi or d (ap (λ (n : ℕ). c.args.cost + n) (c.cycles.ensures.two e)));
+          deals_meet P _ wi or (o.two e) (deal_result P _ _ _ c.in-Ok.is c.operands.ensures (ap operands e))
+          (c.give.ensures _ _ wi or (ap time (c.cycles.ensures.two e)));
       raise = λ P wi or d e.
-          deals_meet P _ wi or (o.three e) (deal_goes P _ _ c.if-o-ne0.false c.if-o.true)
-          (c.raise.ensures P _ _ wi or d (ap (λ (n : ℕ). c.args.cost + n) (c.cycles.ensures.three e)));
+          deals_meet P _ wi or (o.three e) (deal_result P _ _ _ c.in-Ok.is c.operands.ensures (ap operands e))
+          (c.give.ensures _ _ wi or (ap time (c.cycles.ensures.three e)));
     }
 
-pub give-requires : goal.give-requires
-give-requires c =
-    let w = c.try_any-o.ensures.fair.lower c.if-o-ne0.false c.if-o.false in
+pub returns-in-Err-Fault : goal.returns-in-Err-Fault
+returns-in-Err-Fault c =
+    let o = c.try_any-tried.ensures in
+    let w : c.in-Err-Fault.field-0 ≡ Fault c.in-Err-Fault.n = rw c.in-Err-Fault.is at c.in-Err-Fault.field-0-is in
     record {
-      fit = c.requires.fit;
-      stack_in_bounds = c.requires.stack_in_bounds;
-      heap_in_bounds = c.requires.heap_in_bounds;
-      lp_le_low = (w.0, omega (arith, w.1));
+      prim1 = λ P wi or d e. deals_meet P _ wi or (o.one e) (deal_trouble P _ _ c.in-Err-Fault.is w) (fault_meets _ _ c.halt.ensures);
+      prim2 = λ P wi or d e. deals_meet P _ wi or (o.two e) (deal_trouble P _ _ c.in-Err-Fault.is w) (fault_meets _ _ c.halt.ensures);
+      raise = λ P wi or d e. deals_meet P _ wi or (o.three e) (deal_trouble P _ _ c.in-Err-Fault.is w) (fault_meets _ _ c.halt.ensures);
     }
 
-pub returns : goal.returns
-returns c =
-    let o = c.try_any-o.ensures in record {
+pub returns-in-Err-Raises : goal.returns-in-Err-Raises
+returns-in-Err-Raises c =
+    let o = c.try_any-tried.ensures in
+    let w : c.in-Err-Raises.field-0 ≡ Raises c.in-Err-Raises.exception c.in-Err-Raises.field = rw c.in-Err-Raises.is at c.in-Err-Raises.field-0-is in
+    let time = λ (n : ℕ). c.args.cost + n in
+    record {
       prim1 = λ P wi or d e.
-          deals_meet P _ wi or (o.one e) (deal_goes P _ _ c.if-o-ne0.false c.if-o.false)
-          (c.give.ensures _ _ wi or (ap (λ (n : ℕ). c.args.cost + n) (c.cycles.ensures.one e)));
+          deals_meet P _ wi or (o.one e) (deal_trouble P _ _ c.in-Err-Raises.is w)
+          (c.raise.ensures P _ _ wi or d (ap time (c.cycles.ensures.one e)));
       prim2 = λ P wi or d e.
-          deals_meet P _ wi or (o.two e) (deal_goes P _ _ c.if-o-ne0.false c.if-o.false)
-          (c.give.ensures _ _ wi or (ap (λ (n : ℕ). c.args.cost + n) (c.cycles.ensures.two e)));
+          deals_meet P _ wi or (o.two e) (deal_trouble P _ _ c.in-Err-Raises.is w)
+          (c.raise.ensures P _ _ wi or d (ap time (c.cycles.ensures.two e)));
       raise = λ P wi or d e.
-          deals_meet P _ wi or (o.three e) (deal_goes P _ _ c.if-o-ne0.false c.if-o.false)
-          (c.give.ensures _ _ wi or (ap (λ (n : ℕ). c.args.cost + n) (c.cycles.ensures.three e)));
+          deals_meet P _ wi or (o.three e) (deal_trouble P _ _ c.in-Err-Raises.is w)
+          (c.raise.ensures P _ _ wi or d (ap time (c.cycles.ensures.three e)));
     }

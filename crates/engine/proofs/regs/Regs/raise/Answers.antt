@@ -1,54 +1,22 @@
-use mathlib.Core.Path.{refl, sym, ◌∙◌}
+use mathlib.Core.Path.{refl, sym, ◌∙◌, subst}
 use native.Mathlib.Omega.{arith}
-use lib.ListN.{length-set}
-use Rattle.engine.proofs.Turning.{settle_yes, settle_no, went_on}
+use Rattle.engine.specs.Outcomes.{Handled}
+use Rattle.engine.proofs.Turning.{settle_yes, settle_no}
 use Rattle.engine.proofs.Building.{bits_ref}
 use Rattle.engine.proofs.Yielding.{unhandled_stops, raise_leads, bears_thrown, bears_exn}
 use Rattle.engine.proofs.regs.Regs.raise.Goals as goal
 
-pub returns-then-handler-eq255 : goal.returns-then-handler-eq255
-returns-then-handler-eq255 c =
+pub returns-in_default : goal.returns-in_default
+returns-in_default c =
     λ P t k wi or d z.
-    record { each = λ ws hs h m n. unhandled_stops h wi or _ P t k _ _ _ _ d c.if-handler-eq255.true c.halt.ensures }
-
-pub bounds-heap-hp : goal.bounds-heap-hp
-bounds-heap-hp c =
-    let p = went_on c.charge-turn.ensures (sym c.goes_on.ensures ∙ c.if-goes_on.true) in omega (arith, p.heap, c.requires.heap_in_bounds)
-
-pub bounds-heap-hp-then-goes_on : goal.bounds-heap-hp-then-goes_on
-bounds-heap-hp-then-goes_on c =
-    let p = went_on c.charge-turn.ensures (sym c.goes_on.ensures ∙ c.if-goes_on.true) in simp length-set (omega (arith, p.heap, c.requires.heap_in_bounds))
-
-pub bounds-heap-hp-then-goes_on-2 : goal.bounds-heap-hp-then-goes_on-2
-bounds-heap-hp-then-goes_on-2 c =
-    let p = went_on c.charge-turn.ensures (sym c.goes_on.ensures ∙ c.if-goes_on.true) in simp length-set (omega (arith, p.heap, c.requires.heap_in_bounds))
-
-pub bounds-stack-0 : goal.bounds-stack-0
-bounds-stack-0 c =
-    let p = went_on c.charge-turn.ensures (sym c.goes_on.ensures ∙ c.if-goes_on.true) in omega (arith, p.depth, c.requires.stack_in_bounds)
-
-pub bounds-stack-1 : goal.bounds-stack-1
-bounds-stack-1 c =
-    let p = went_on c.charge-turn.ensures (sym c.goes_on.ensures ∙ c.if-goes_on.true) in simp length-set (omega (arith, p.depth, c.requires.stack_in_bounds))
-
-pub bounds-stack-2 : goal.bounds-stack-2
-bounds-stack-2 c =
-    let p = went_on c.charge-turn.ensures (sym c.goes_on.ensures ∙ c.if-goes_on.true) in simp length-set (omega (arith, p.depth, c.requires.stack_in_bounds))
-
-pub bounds-stack-3 : goal.bounds-stack-3
-bounds-stack-3 c =
-    let p = went_on c.charge-turn.ensures (sym c.goes_on.ensures ∙ c.if-goes_on.true) in simp length-set (omega (arith, p.depth, c.requires.stack_in_bounds))
-
-pub bounds-stack-4 : goal.bounds-stack-4
-bounds-stack-4 c =
-    let p = went_on c.charge-turn.ensures (sym c.goes_on.ensures ∙ c.if-goes_on.true) in simp length-set (omega (arith, p.depth, c.requires.stack_in_bounds))
+    record { each = λ ws hs h m n. unhandled_stops h wi or _ P t k _ _ (subst (Handled P) c.in_default.is d) c.halt.ensures }
 
 pub returns-then-goes_on : goal.returns-then-goes_on
 returns-then-goes_on c =
     λ P t k wi or d z.
     record {
       each = λ ws hs h m n.
-          settle_yes (raise_leads h wi or P _ t k _ _ _ _ d c.if-handler-eq255.false z) _ _ c.charge-turn.ensures (sym c.goes_on.ensures ∙ c.if-goes_on.true)
+          settle_yes (raise_leads h wi or P _ t k _ _ _ (subst (Handled P) c.in-Some.is d) z) _ _ c.charge-turn.ensures (sym c.goes_on.ensures ∙ c.if-goes_on.true)
           (λ a b.
           record {
             stack =
@@ -67,5 +35,5 @@ returns-else-goes_on c =
     λ P t k wi or d z.
     record {
       each = λ ws hs h m n.
-          settle_no (raise_leads h wi or P _ t k _ _ _ _ d c.if-handler-eq255.false z) _ c.charge-turn.ensures (sym c.goes_on.ensures ∙ c.if-goes_on.false);
+          settle_no (raise_leads h wi or P _ t k _ _ _ (subst (Handled P) c.in-Some.is d) z) _ c.charge-turn.ensures (sym c.goes_on.ensures ∙ c.if-goes_on.false);
     }
