@@ -7,6 +7,8 @@ use lib.ListN.{length, get_or}
 use Rattle.hume.specs.Image.{program, byte, half, full, ruleset_at, code_at}
 use Rattle.laws.specs.Accepted.{Handler, absent, present}
 use Rattle.laws.proofs.Orders.{stretches}
+use Rattle.gate.specs.declared.image.Start.{Start}
+use Rattle.gate.specs.Parts.{start_at}
 use Rattle.engine.specs.Fits.{Imaged, Located}
 
 -- ---- the tables of the rulesets
@@ -62,13 +64,13 @@ module _ {m : List ℕ} (i : Imaged m) where
       by (present p) = omega (arith, e, p)
 
   -- where the instructions begin
-  pub begins : {at orders : List ℕ} → Located m at orders → get_or at (get_or m 7 0) 0 ≡ code_at m 0
+  pub begins : {starts : List Start} → Located m starts → (start_at starts (get_or m 7 0)).image ≡ code_at m 0
   unfolding byte code_at
   begins l = l.places (get_or m 7 0) (let x = rulesets_most in omega arith) ∙ omega arith
 
   -- they fill the rest of the image
-  pub fills : {at orders : List ℕ} → Located m at orders
-      → get_or at (get_or m 7 0) 0 + 8 * (program m).size ≡ length m
+  pub fills : {starts : List Start} → Located m starts
+      → (start_at starts (get_or m 7 0)).image + 8 * (program m).size ≡ length m
   unfolding code_at
   fills l = let a = begins l in let b = i.long in omega arith
 
@@ -92,24 +94,24 @@ code_at_lem m k = omega arith
 
 -- ---- what is read of a ruleset, by way of the table of places
 
-module _ {m at orders : List ℕ} (i : Imaged m) (l : Located m at orders) (r : ℕ) (h : r < (program m).rulesets) where
-  placed_at : get_or at r 0 ≡ ruleset_at m r
+module _ {m : List ℕ} {starts : List Start} (i : Imaged m) (l : Located m starts) (r : ℕ) (h : r < (program m).rulesets) where
+  placed_at : (start_at starts r).image ≡ ruleset_at m r
   placed_at =
       let a : (program m).rulesets ≤ 32 = i.accepted.rulesets in
       l.places r (omega arith)
 
-  pub place_room : get_or at r 0 + 3 + 2 * (program m).count r ≤ length m
+  pub place_room : (start_at starts r).image + 3 + 2 * (program m).count r ≤ length m
   place_room = rw placed_at (table_room i r h)
 
-  pub entry_at : half m (get_or at r 0) ≡ (program m).entry r
+  pub entry_at : half m ((start_at starts r).image) ≡ (program m).entry r
   unfolding program
   entry_at = ap (half m) placed_at
 
-  pub count_at : get_or m (get_or at r 0 + 2) 0 ≡ (program m).count r
+  pub count_at : get_or m ((start_at starts r).image + 2) 0 ≡ (program m).count r
   unfolding program byte
   count_at = ap (λ (x : ℕ). get_or m (x + 2) 0) placed_at
 
-  pub rule_at_lem : (k : ℕ) → half m (get_or at r 0 + 3 + 2 * k) ≡ (program m).rule r k
+  pub rule_at_lem : (k : ℕ) → half m ((start_at starts r).image + 3 + 2 * k) ≡ (program m).rule r k
   unfolding program
   rule_at_lem k = ap (λ (x : ℕ). half m (x + 3 + 2 * k)) placed_at
 

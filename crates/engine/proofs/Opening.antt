@@ -1,7 +1,7 @@
 -- Where a call begins, and what its end leaves in the registers.
 use mathlib.Core.Path.{◌≡◌, refl, sym, ap, ◌∙◌, subst}
 use mathlib.Core.Bool.{false}
-use mathlib.Core.List.{List, []}
+use mathlib.Core.List.{map, List, []}
 use Prim.Native.Nat.{ℕ, zero, suc, ◌-◌, ◌^◌, ◌≤◌, ◌<◌}
 use native.Mathlib.Nat.{not-suc-le-zero}
 use native.Mathlib.Omega.{arith}
@@ -21,7 +21,10 @@ use Rattle.reach.specs.Demands.{Allowed, Typed, unlimited, begins}
 use Rattle.reach.proofs.Sound.{sound_start}
 use Rattle.reach.proofs.Ranged.{ranged_start}
 use Rattle.reach.proofs.Demands.{left}
-use Rattle.gate.specs.Parts.{LaidOut}
+use Rattle.std.proofs.Math.ListN.{get_or-map}
+use Rattle.std.proofs.lemmas.List.{length-map}
+use Rattle.gate.specs.declared.image.Start.{Start}
+use Rattle.gate.specs.Parts.{LaidOut, in_image, in_order}
 use Rattle.engine.specs.Turns.{Bears, core, Buffers, buffers}
 use Rattle.engine.specs.Fits.{Located, Imaged}
 use Rattle.engine.specs.Running.{run_of, Going, Over}
@@ -46,13 +49,12 @@ use Rattle.engine.specs.declared.Ending.{Ending}
 use Rattle.engine.specs.declared.regs.Regs.{Regs}
 
 -- the gate's layout is the table that the machine goes by
-pub laid_out : {m at orders : List ℕ} → LaidOut m at orders → Located m at orders
-laid_out l =
+pub laid_out : {m : List ℕ} {starts : List Start} → LaidOut m (map in_image starts) (map in_order starts) → Located m starts
+laid_out {m} {starts} l =
     record {
-      at_long = l.at_length;
-      orders_long = l.order_length;
-      places = l.begins;
-      order_places = l.ordered;
+      long = sym (length-map starts in_image) ∙ l.at_length;
+      places = λ k h. sym (get_or-map in_image starts k (record { image = 0; order = 0 })) ∙ l.begins k h;
+      order_places = λ k h. sym (get_or-map in_order starts k (record { image = 0; order = 0 })) ∙ l.ordered k h;
     }
 
 -- an area bears no words

@@ -3,6 +3,8 @@ use Rattle.std.specs.Prelude.{◌≡◌, List, ℕ, ◌+◌, ◌/◌, ◌%◌, �
 use Rattle.std.specs.Coded.{le_prop}
 use native.Mathlib.Nat.{ℕ_set, lt_irrefl, lt_of_lt_of_le, le_trans, le-add_right}
 use mathlib.Core.Path.{ap, subst}
+use Rattle.gate.specs.declared.image.Start.{Start}
+use Rattle.gate.specs.Parts.{start_at}
 use Rattle.hume.specs.Image.{Program, program, code_at, ruleset_at, order_at}
 use Rattle.laws.specs.Accepted.{Handler, absent, present, Bytes, Accepted}
 use Rattle.engine.specs.declared.regs.Limits.{Limits}
@@ -45,9 +47,8 @@ Handler-prop P m (present p) (present q) = ap present (le_prop p q)
 Handler-prop P m (absent p) (present q) = absurd (not_both P m p q)
 Handler-prop P m (present p) (absent q) = absurd (not_both P m q p)
 
--- where each ruleset's table begins, and its order
-pub record Located (m : List ℕ) (at orders : List ℕ) : Type 0 where
-  pub at_long : length at ≡ 33
-  pub orders_long : length orders ≡ 33
-  pub places : (k : ℕ) → k < 33 → get_or at k 0 ≡ ruleset_at m k
-  pub order_places : (k : ℕ) → k < 33 → get_or orders k 0 ≡ order_at (program m) k
+-- where each ruleset begins, in the image and in the rule order
+pub record Located (m : List ℕ) (starts : List Start) : Type 0 where
+  pub long : length starts ≡ 33
+  pub places : (k : ℕ) → k < 33 → (start_at starts k).image ≡ ruleset_at m k
+  pub order_places : (k : ℕ) → k < 33 → (start_at starts k).order ≡ order_at (program m) k

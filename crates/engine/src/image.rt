@@ -2,10 +2,13 @@
 // unnecessary.
 ghost use Rattle.std.specs.Prelude.{◌≡◌, ℕ, ◌+◌, ◌*◌, ◌≤◌, ◌<◌, length, get_or};
 ghost use Rattle.std.proofs.Props.{props};
+ghost use Rattle.gate.specs.Parts.{start_at};
 ghost use Rattle.hume.specs.Image.{program, code_at, order_at, half as half_of, full as full_of};
 ghost use Rattle.laws.specs.Accepted.{CardFits, OrderFits};
 ghost use Rattle.engine.specs.Fits.{Imaged, Located, Handler-prop};
 ghost use Rattle.engine.specs.Outcomes.{cycle_table, Handled, Handled-prop};
+
+use gate::Start;
 
 // The ruleset that handles exceptions, and where it is entered.
 #[derive(Clone, Copy)]
@@ -14,13 +17,12 @@ pub struct Handler {
     pub entry: usize,
 }
 
-// What a run goes by and never writes: an accepted image, where each ruleset's table and its order begin, the card, Table 5,
+// What a run goes by and never writes: an accepted image, where each ruleset begins in it and in the rule order, the card, Table 5,
 // where the instructions begin, how many wires there are, and the handler with its entry.
 #[derive(Clone, Copy)]
 pub struct Code<'a> {
     pub image: &'a [u8],
-    pub at: &'a [usize],
-    pub orders: &'a [usize],
+    pub rulesets: &'a [Start],
     pub card: &'a [u32],
     pub cycles: &'a [u16],
     pub start: usize,
@@ -28,11 +30,11 @@ pub struct Code<'a> {
     pub outputs: usize,
     pub handler: Option<Handler>,
     pub ghost imaged: { Imaged image.now } by { Prim.hlevel (props, Handler-prop) },
-    pub ghost located: { Located image.now at.now orders.now },
+    pub ghost located: { Located image.now rulesets.now },
     pub ghost prices: { CardFits card.now },
     pub ghost cycled: { cycles.now ≡ cycle_table },
     pub ghost started: { start ≡ code_at image.now 0 },
-    pub ghost tables: { (r : ℕ) → r < (program image.now).rulesets → get_or at.now r 0 + 3 + 2 * (program image.now).count r ≤ length image.now },
+    pub ghost tables: { (r : ℕ) → r < (program image.now).rulesets → (start_at rulesets.now r).image + 3 + 2 * (program image.now).count r ≤ length image.now },
     pub ghost instructions: { start + 8 * (program image.now).size ≡ length image.now },
     pub ghost wires_in: { inputs ≡ (program image.now).inputs },
     pub ghost wires_out: { outputs ≡ (program image.now).outputs },
@@ -64,19 +66,18 @@ fn full(image: &[u8], i: usize) -> u32
 impl<'a> Code<'a> {
     pub(crate) fn new(
         image: &'a [u8],
-        at: &'a [usize],
-        orders: &'a [usize],
+        rulesets: &'a [Start],
         card: &'a [u32],
         cycles: &'a [u16],
     ) -> Code<'a>
         requires imaged { Imaged image.now }
-        requires located { Located image.now at.now orders.now }
+        requires located { Located image.now rulesets.now }
         requires prices { CardFits card.now }
         requires cycled { cycles.now ≡ cycle_table }
         requires in_bounds { 11 ≤ length image.now }
         ensures { (result.image.now ≡ image.now) × (result.card.now ≡ card.now) }
     {
-        let start = at[byte(image, 7)];
+        let start = rulesets[byte(image, 7)].image;
         let inputs = byte(image, 5);
         let outputs = byte(image, 6);
         let ruleset = byte(image, 8);
@@ -86,13 +87,12 @@ impl<'a> Code<'a> {
         } else {
             Some(Handler {
                 ruleset,
-                entry: half(image, at[ruleset]),
+                entry: half(image, rulesets[ruleset].image),
             })
         };
         Code {
             image,
-            at,
-            orders,
+            rulesets,
             card,
             cycles,
             start,
@@ -110,7 +110,7 @@ impl<'a> Code<'a> {
         requires { a < (program self.now.image.now).rulesets }
         ensures { (result ≡ (program self.now.image.now).entry a) × (result < 4096) }
     {
-        half(self.image, self.at[a])
+        half(self.image, self.rulesets[a].image)
     }
 
     // "rule count (1 byte, 1..16)" of the ruleset r
@@ -119,7 +119,7 @@ impl<'a> Code<'a> {
         requires { r < (program self.now.image.now).rulesets }
         ensures { (result ≡ (program self.now.image.now).count r) × (result ≤ 16) }
     {
-        byte(self.image, self.at[r] + 2)
+        byte(self.image, self.rulesets[r].image + 2)
     }
 
     // where the order of the ruleset r begins
@@ -127,7 +127,7 @@ impl<'a> Code<'a> {
         requires { r < (program self.now.image.now).rulesets }
         ensures { result ≡ order_at (program self.now.image.now) r }
     {
-        self.orders[r]
+        self.rulesets[r].order
     }
 
     // "rule addresses (2 each)": that of the rule at the order position k of the ruleset rs
@@ -139,7 +139,7 @@ impl<'a> Code<'a> {
     {
         let o = self.order_of(rs) + k;
         let rule = order[o] as usize;
-        half(self.image, self.at[rs] + 3 + 2 * rule)
+        half(self.image, self.rulesets[rs].image + 3 + 2 * rule)
     }
 
     // ---- instructions: "N instructions of 8 bytes: opcode, a (1 byte), b (2), c (4)"

@@ -174,11 +174,9 @@ fn run_accepted(
     requires { refusalOf (given image.now card.now t s h stack.old heap.old wires.old order.old) ≡ 0 }
     ensures { told result (buffers stack.new heap.new wires.new order.new) ≡ answer (given image.now card.now t s h stack.old heap.old wires.old order.old) }
 {
-    let table = layout(image);
-    let at = table.at;
-    let orders = table.order;
+    let rulesets = layout(image);
     let cycles = CYCLES;
-    let code = Code::new(image, &at, &orders, card, &cycles);
+    let code = Code::new(image, &rulesets, card, &cycles);
     let lim = Limits {
         stack: s as usize,
         heap: h as usize,

@@ -3,4 +3,5 @@ pub mod Rulesets
 pub mod Instructions
 pub mod Cells
 pub mod Lent
+pub mod Starts
 pub mod Unique

@@ -4,6 +4,7 @@ use Rattle.gate.specs.declared.code.Kind.{Kind}
 use Rattle.gate.specs.declared.code.Kind.TheVariants.{Unused, Anything, Truth, Address, Input, Output, Ruleset, Primitive1, Primitive2}
 use Rattle.gate.specs.declared.code.Format.{Format}
 use Rattle.gate.specs.declared.image.Header.{Header}
+use Rattle.gate.specs.declared.image.Start.{Start}
 use Rattle.hume.specs.Tests.{pick, every}
 use Rattle.hume.specs.Image.{Program, program, byte, half, ruleset_at, order_at}
 use Rattle.hume.specs.Refusals.{Field, Fields, fields, unused, anything, truth, address, input, output, callee, primitive1, primitive2, field_ok, format_of, opcode_ok, ruleset_ok}
@@ -84,6 +85,16 @@ fields_ok P op a b c =
 
 unfoldable pub ends_ok : ℕ → Bool
 ends_ok op = eqb op 15 || (eqb op 18 || (eqb op 21 || eqb op 40))
+
+-- the places of a ruleset's start
+abbrev pub in_image : Start → ℕ
+in_image s = s.image
+
+abbrev pub in_order : Start → ℕ
+in_order s = s.order
+
+abbrev pub start_at : List Start → ℕ → Start
+start_at starts k = get_or starts k (record { image = 0; order = 0 })
 
 -- where each ruleset begins, in the image and in the rule order, to one past the last that there may be
 pub record LaidOut (m : List ℕ) (at order : List ℕ) : Type 0 where

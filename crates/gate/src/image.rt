@@ -4,11 +4,11 @@ ghost use Rattle.hume.specs.Image.{program, byte, half, full};
 ghost use Rattle.hume.specs.Refusals.{length_ok, counts_ok};
 ghost use Rattle.gate.specs.Parts.{Read, HeaderOf, ranges_ok, counts_end};
 
-// Where ruleset k begins in the image, and its part in the rule order, to one past the 32nd.
-#[derive(Drop)]
-pub struct Layout {
-    pub at: [usize; 33],
-    pub order: [usize; 33],
+// Where a ruleset begins, in the image and in the rule order.
+#[derive(Clone, Copy)]
+pub struct Start {
+    pub image: usize,
+    pub order: usize,
 }
 
 // A byte; past the end, 0.

@@ -8,13 +8,13 @@ mod order;
 mod refusals;
 mod wires;
 
-ghost use Rattle.std.specs.Prelude.{◌≡◌};
+ghost use Rattle.std.specs.Prelude.{◌≡◌, map};
 ghost use Rattle.hume.specs.Refusals.{image_refusal, card_ok, limits_ok};
 ghost use Rattle.hume.specs.Call.{refusal, lent_refusal};
 ghost use Rattle.gate.specs.Verdicts.{number, given};
-ghost use Rattle.gate.specs.Parts.{LaidOut};
+ghost use Rattle.gate.specs.Parts.{LaidOut, in_image, in_order};
 
-pub use image::Layout;
+pub use image::Start;
 pub use refusals::Refusal;
 
 // "Card: 40 numbers of 32 bits, one per opcode, each 1..65535."
@@ -33,19 +33,24 @@ pub fn limits_ok(s: u32, h: u32, stack: usize, heap: usize) -> bool
     s <= 4096 && h <= 16384 && s as usize <= stack && h as usize <= heap
 }
 
-// One pass, also past the last ruleset: what stands there is no matter, and is bounded.
-pub fn layout(image: &[u8]) -> Layout
-    ensures { LaidOut image.now result.at result.order }
+// Where each ruleset begins, to one past the 32nd. One pass, also past the last ruleset: what stands there is no matter, and is
+// bounded.
+pub fn layout(image: &[u8]) -> [Start; 33]
+    ensures { LaidOut image.now (map in_image result) (map in_order result) }
 {
-    let mut at = [11usize; 33];
-    let mut order = [0usize; 33];
+    let mut starts = [Start {
+        image: 11,
+        order: 0,
+    }; 33];
     for k in 0..32 {
-        let p = at[k];
-        let count = image::byte_at(image, p + 2);
-        at[k + 1] = p + 3 + 2 * count;
-        order[k + 1] = order[k] + count;
+        let start = starts[k];
+        let count = image::byte_at(image, start.image + 2);
+        starts[k + 1] = Start {
+            image: start.image + 3 + 2 * count,
+            order: start.order + count,
+        };
     }
-    Layout { at, order }
+    starts
 }
 
 // 1 to 4.

@@ -28,13 +28,12 @@ pub(crate) fn order_ok(image: &[u8], order: &[u32]) -> bool
     ensures { result ≡ order_ok (program image.now) order.now }
 {
     let rulesets = byte_at(image, 7);
-    let begins = layout(image);
-    let places = begins.order;
-    if order.len() != places[rulesets] {
+    let starts = layout(image);
+    if order.len() != starts[rulesets].order {
         return false;
     }
     for r in 0..rulesets {
-        if !permutation_ok(&order[places[r]..places[r + 1]]) {
+        if !permutation_ok(&order[starts[r].order..starts[r + 1].order]) {
             return false;
         }
     }

@@ -1,14 +1,14 @@
-use Rattle.std.proofs.Common.{◌≡◌, ℕ, ◌+◌, ◌*◌, ◌≤◌, ◌<◌, length, get_or}
+use Rattle.std.proofs.Common.{◌≡◌, ℕ, ◌+◌, ◌*◌, ◌≤◌, ◌<◌, length}
 use Rattle.hume.specs.Image.{program, ruleset_at, order_at}
+use Rattle.gate.specs.Parts.{start_at}
 use Rattle.gate.proofs.layout.Given as goal
 
 abbrev pub invariant-loop-k : goal.invariant-loop-k
 invariant-loop-k l =
     record {
-      at_length : length l.at ≡ 33;
-      order_length : length l.order ≡ 33;
-      begins : (j : ℕ) → j < l.k + 1 → get_or l.at j 0 ≡ ruleset_at l.image j;
-      ordered : (j : ℕ) → j < l.k + 1 → get_or l.order j 0 ≡ order_at (program l.image) j;
-      at_low : get_or l.at l.k 0 ≤ 11 + 513 * l.k;
-      order_low : get_or l.order l.k 0 ≤ 255 * l.k;
+      long : length l.starts ≡ 33;
+      begins : (j : ℕ) → j < l.k + 1 → (start_at l.starts j).image ≡ ruleset_at l.image j;
+      ordered : (j : ℕ) → j < l.k + 1 → (start_at l.starts j).order ≡ order_at (program l.image) j;
+      image_low : (start_at l.starts l.k).image ≤ 11 + 513 * l.k;
+      order_low : (start_at l.starts l.k).order ≤ 255 * l.k;
     }

@@ -1,24 +1,26 @@
-use Rattle.std.proofs.Common.{sym, ◌∙◌, arith, below_none, below_more}
+use Rattle.gate.specs.Parts.{in_order}
+use Rattle.std.proofs.Common.{map, sym, ◌∙◌, arith, below_none, below_more}
 use Rattle.hume.specs.Image.{program}
+use Rattle.gate.proofs.Starts.{order_is, part_at}
 use Rattle.gate.proofs.Lent.{rulesets_few, whole_order, lent_part, order_long, order_out, order_in}
 use Rattle.gate.proofs.order.order_ok.Goals as goal
 
-pub bounds-places-rulesets : goal.bounds-places-rulesets
-bounds-places-rulesets c =
-    let few = rulesets_few _ c.args.order.now c.layout-begins.result.order c.requires _ c.byte_at-rulesets.ensures.is in
+pub bounds-starts-rulesets : goal.bounds-starts-rulesets
+bounds-starts-rulesets c =
+    let few = rulesets_few _ c.args.order.now (map in_order c.layout-starts.result) c.requires _ c.byte_at-rulesets.ensures.is in
     omega arith
 
-pub returns-then-order-places : goal.returns-then-order-places
-returns-then-order-places c =
-    let all = whole_order _ c.args.order.now _ c.requires _ c.byte_at-rulesets.ensures.is c.layout-begins.ensures.ordered in
-    sym (order_long _ _ (λ e. c.if-order-places.true (e ∙ sym all)))
+pub returns-then-order-starts : goal.returns-then-order-starts
+returns-then-order-starts c =
+    let all = whole_order _ c.args.order.now _ c.requires _ c.byte_at-rulesets.ensures.is c.layout-starts.ensures.ordered in
+    sym (order_long _ _ (λ e. c.if-order-starts.true (e ∙ sym all ∙ order_is c.layout-starts.result c.byte_at-rulesets.result)))
 
 pub loop-r-init : goal.loop-r-init
 loop-r-init c =
     record {
-      few = rulesets_few _ c.args.order.now c.layout-begins.result.order c.requires _ c.byte_at-rulesets.ensures.is;
-      parts = lent_part _ _ _ c.requires _ c.byte_at-rulesets.ensures.is c.layout-begins.ensures.ordered
-          c.if-order-places.false;
+      few = rulesets_few _ c.args.order.now (map in_order c.layout-starts.result) c.requires _ c.byte_at-rulesets.ensures.is;
+      parts = λ j h. part_at _ _ _ j (lent_part _ _ _ c.requires _ c.byte_at-rulesets.ensures.is c.layout-starts.ensures.ordered
+          (c.if-order-starts.false ∙ sym (order_is c.layout-starts.result _)) j h);
       passed = below_none _;
     }
 
@@ -31,8 +33,8 @@ slice_bounds-permutation_ok-start c = (c.loop-r.invariant.parts c.loop-r.r c.loo
 pub slice_bounds-permutation_ok-end : goal.slice_bounds-permutation_ok-end
 slice_bounds-permutation_ok-end c = (c.loop-r.invariant.parts c.loop-r.r c.loop-r-test.true).within
 
-pub offset_bounds-order-places : goal.offset_bounds-order-places
-offset_bounds-order-places c =
+pub offset_bounds-order-starts : goal.offset_bounds-order-starts
+offset_bounds-order-starts c =
     let p = c.loop-r.invariant.parts c.loop-r.r c.loop-r-test.true in omega (arith, p.up, p.within, c.well_formed)
 
 pub permutation_ok-requires : goal.permutation_ok-requires
@@ -56,6 +58,6 @@ loop-r-preserved c =
 pub returns : goal.returns
 unfolding program
 returns c =
-    let all = whole_order _ c.args.order.now _ c.requires _ c.byte_at-rulesets.ensures.is c.layout-begins.ensures.ordered in
-    sym (order_in _ _ (c.if-order-places.false ∙ all)
+    let all = whole_order _ c.args.order.now _ c.requires _ c.byte_at-rulesets.ensures.is c.layout-starts.ensures.ordered in
+    sym (order_in _ _ (c.if-order-starts.false ∙ sym (order_is c.layout-starts.result _) ∙ all)
     (λ j h. c.loop-r.invariant.passed j (omega (arith, c.byte_at-rulesets.ensures.is, c.loop-r-test.false))))

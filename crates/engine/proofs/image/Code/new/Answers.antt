@@ -1,19 +1,19 @@
 use Rattle.engine.proofs.Imaging.{place_room, entry_at, rulesets_most, handler_below, begins, fills, inputs_is, outputs_is, handler_is}
+use Rattle.gate.specs.Parts.{start_at}
 use Rattle.hume.specs.Image.{program}
 use Prim.Native.Nat.{◌+◌, ◌*◌}
-use lib.ListN.{get_or}
 use native.Mathlib.Omega.{arith}
 use mathlib.Core.Path.{sym, ap, subst, ◌∙◌}
 use Rattle.engine.specs.Outcomes.{Handled}
 use Rattle.engine.proofs.image.Code.new.Goals as goal
 use Rattle.engine.proofs.image.Code.new.Goals.{then-ruleset-eq255, else-ruleset-eq255}
 
-pub bounds-at-byte : goal.bounds-at-byte
-bounds-at-byte c = omega (arith, c.byte.ensures.0, rulesets_most c.requires.imaged, c.requires.located.at_long)
+pub bounds-rulesets-byte : goal.bounds-rulesets-byte
+bounds-rulesets-byte c = omega (arith, c.byte.ensures.0, rulesets_most c.requires.imaged, c.requires.located.long)
 
-pub bounds-at-ruleset : goal.bounds-at-ruleset
-bounds-at-ruleset c =
-    omega (arith, handler_below c.requires.imaged c.byte-ruleset.ensures.0 c.if-ruleset-eq255.false, c.requires.imaged.accepted.rulesets, c.requires.located.at_long)
+pub bounds-rulesets-ruleset : goal.bounds-rulesets-ruleset
+bounds-rulesets-ruleset c =
+    omega (arith, handler_below c.requires.imaged c.byte-ruleset.ensures.0 c.if-ruleset-eq255.false, c.requires.imaged.accepted.rulesets, c.requires.located.long)
 
 pub half-requires : goal.half-requires
 half-requires c =
@@ -24,14 +24,14 @@ invariant_of-result c =
     let i = c.requires.imaged in
     let l = c.requires.located in
     let m = c.args.image.now in
-    let at = c.args.at.now in record {
+    let rulesets = c.args.rulesets.now in record {
       imaged = i;
       located = l;
       prices = c.requires.prices;
       cycled = c.requires.cycled;
-      started = ap (λ x. get_or at x 0) c.byte.ensures.0 ∙ begins i l;
+      started = ap (λ x. (start_at rulesets x).image) c.byte.ensures.0 ∙ begins i l;
       tables = λ r h. place_room i l r h;
-      instructions = ap (λ x. get_or at x 0 + 8 * (program m).size) c.byte.ensures.0 ∙ fills i l;
+      instructions = ap (λ x. (start_at rulesets x).image + 8 * (program m).size) c.byte.ensures.0 ∙ fills i l;
       wires_in = c.byte-inputs.ensures.0 ∙ inputs_is m;
       wires_out = c.byte-outputs.ensures.0 ∙ outputs_is m;
       handled =
