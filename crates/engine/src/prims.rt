@@ -260,7 +260,14 @@ impl Regs {
     }
 
     // By opcode.
-    fn try_any(self, op: usize, a: usize, b: u32, stack: &[u32], heap: &[u32]) -> Result<Cell, Trouble>
+    fn try_any(
+        self,
+        op: usize,
+        a: usize,
+        b: u32,
+        stack: &[u32],
+        heap: &[u32],
+    ) -> Result<Cell, Trouble>
         requires lp_le_sp { (self.lp ≤ self.sp) × (self.sp ≤ length stack.now) × (self.hp ≤ length heap.now) }
         requires refs { Refs self stack.now }
         requires b_bound { b < 65536 }

@@ -18,7 +18,11 @@ pub(crate) const INT: u32 = 2 << 16;
 
 pub(crate) const FLOAT: u32 = 3 << 16;
 
+pub(crate) const TUPLE: u32 = 4 << 16;
+
 pub(crate) const EXN: u32 = 6 << 16;
+
+pub(crate) const NONE_CELL: u32 = 7 << 16;
 
 // The heap place that a reference is to.
 pub(crate) fn place_of(w: u32) -> Option<usize>
