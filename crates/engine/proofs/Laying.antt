@@ -5,8 +5,8 @@ use Prim.Native.Nat.{ℕ, suc, ◌+◌, ◌-◌, ◌≤◌, ◌<◌}
 use native.Mathlib.Omega.{arith}
 use native.Mathlib.Nat.{add-zero, ne_of_gt}
 use native.Mathlib.Numerals.{add-one}
-use lib.ListN.{length, get_or, set, take, drop, length-append, length-drop, take-append-drop}
-use lib.Seq.{sets, sets-eq, set_comm, take_at, take-add, take-suc, take-suc-set, take-set-le, drop-set-lt, drop-set-add, get_or-drop, length-take-le, drop-drop}
+use lib.ListN.{length, set, take, drop, length-append, length-drop, take-append-drop}
+use lib.Seq.{paste, sets, sets-eq, set_comm, take_at, take-add, take-suc-set, take-set-le, drop-set-lt, drop-set-add, length-take-le, drop-drop}
 use Rattle.engine.specs.Copies.{Laid}
 
 -- ---- stores in a row
@@ -110,30 +110,14 @@ module _ (from to : ℕ) (l : List ℕ) where
   moved_long : (n : ℕ) → from + n ≤ length l → length (take n (drop from l)) ≡ n
   moved_long n h = let a = length-drop from l in length-take-le n (drop from l) (omega arith)
 
-  pub moved_next : (j : ℕ) {l' : List ℕ} → to ≤ from → from + j < length l → l' ≡ sets l to (take j (drop from l))
-      → set l' (to + j) (get_or l' (from + j) 0) ≡ sets l to (take (j + 1) (drop from l))
-  moved_next j {l'} h i e =
-      let ws = take j (drop from l) in
-      let x = get_or l' (from + j) 0 in
-      let n : length ws ≡ j = moved_long j (omega arith) in
-      let d = length-drop from l in
-      let z : from + j + 0 ≡ from + j = omega arith in
-      let same : drop (from + j) l' ≡ drop (from + j) l = rw e (drop_sets (from + j) l to ws (omega arith)) in
-      let was : x ≡ get_or (drop from l) j 0 =
-      sym (rw z at (get_or-drop (from + j) l' 0 0))
-      ∙ ap (λ (y : List ℕ). get_or y 0 0) same
-      ∙ (rw z at (get_or-drop (from + j) l 0 0))
-      ∙ sym (get_or-drop from l j 0) in
-      let more : take (j + 1) (drop from l) ≡ ws ++ x ∷ [] =
-      ap (λ (y : ℕ). take y (drop from l)) (add-one j)
-      ∙ take-suc (drop from l) j 0 (omega arith)
-      ∙ ap (λ (y : ℕ). ws ++ y ∷ []) (sym was) in
-      ap (λ (y : List ℕ). set y (to + j) x) e
-      ∙ ap (λ (y : ℕ). set (sets l to ws) (to + y) x) (sym n)
-      ∙ sets_append l to ws (x ∷ [])
-      ∙ ap (λ (y : List ℕ). sets l to y) (sym more)
+  pub moved_all : (n m : ℕ) → to ≤ from → from + n ≤ length l → m ≡ n → paste l to (drop from l) m ≡ sets l to (take n (drop from l))
+  moved_all n m h i e =
+      let z : length (take n (drop from l)) ≡ n = moved_long n i in
+      rw e
+      (sym
+      (sets-eq (take n (drop from l)) l to (omega arith)
+      ∙ ap (λ (k : ℕ). take to l ++ take n (drop from l) ++ drop (to + k) l) z))
 
-  -- words that stand there already
   pub moved_there : (n : ℕ) → to ≡ from → from + n ≤ length l → l ≡ sets l to (take n (drop from l))
   moved_there n e h =
       let m = moved_long n h in

@@ -1,29 +1,29 @@
 -- What the instructions that empty and test wires lead to, and the kinds of words by their 32 bits.
 use mathlib.Core.Path.{◌≡◌, refl, sym, ap, ◌∙◌, subst}
-use mathlib.Core.Bool.{false, not}
+use mathlib.Core.Bool.{true, false, not}
 use mathlib.Core.List.{List, [], append-nil}
 use Prim.Native.Nat.{ℕ, zero, suc, ◌+◌, ◌-◌, ◌*◌, ◌^◌, ◌≤◌, ◌<◌}
 use native.Mathlib.Omega.{arith}
-use native.Mathlib.Nat.{not-suc-le-zero}
 use native.Mathlib.Numerals.{add-one}
 use native.Mathlib.Decide.{ℕ_discrete}
 use lib.Dec.{T, leb, eqb, leb→le, le→leb, eqb→eq, T_not, not_T}
 use lib.ListN.{length, get_or, set, replicate, length-replicate, get_or-replicate}
 use lib.Seq.{paste, paste-suc}
+use Rattle.std.specs.Prelude.{Some, None}
 use Rattle.limits.specs.Machine.{ends, goes}
 use Rattle.hume.specs.Tests.{pick, all}
-use Rattle.hume.specs.Words.{Word, null, bits, is_ref, is_none, is_value}
+use Rattle.hume.specs.Words.{Word, bits, is_none, is_value}
 use Rattle.hume.specs.Image.{Program}
 use Rattle.hume.specs.Values.{wire_count, is_empty, set_wire}
 use Rattle.hume.specs.State.{State, fault, blocked, Deed, values, locals, need, next, turns, below, downward}
 use Rattle.hume.specs.Instructions.{Consume, output_at, holds_up, checked, CheckOutputs}
 use Rattle.hume.specs.Machine.{charged}
 use Rattle.laws.specs.Sizes.{Small}
-use Rattle.laws.proofs.Tests.{and_left, and_right, and_both, or_left, or_right, eqb_of, pick_true, pick_false, all_at, all_of}
-use Rattle.laws.proofs.Words.{ValueWord, refers, nothing, value_word, none_is}
+use Rattle.laws.proofs.Tests.{of_true, and_left, and_right, and_both, eqb_of, pick_true, pick_false}
+use Rattle.laws.proofs.Words.{none_is}
 use Rattle.laws.proofs.Deeds.{need_yes, need_no}
 use Rattle.engine.specs.Fits.{Fit}
-use Rattle.engine.specs.Copies.{ValueBits, FirstOther, Stuck, FirstStuck}
+use Rattle.engine.specs.Copies.{Stuck, FirstStuck}
 use Rattle.engine.specs.Turns.{Smalls, plain, core, Holds, halt, Buffers, Turned, priced}
 use Rattle.engine.specs.declared.Ending.TheVariants as ending
 use Rattle.engine.specs.declared.regs.Limits.{Limits}
@@ -31,6 +31,7 @@ use Rattle.engine.specs.declared.regs.Regs.{Regs}
 use Rattle.engine.specs.declared.regs.Turn.{Turn}
 use Rattle.engine.proofs.Turning.{Leads, stops, lead_still, values_are, reads_below}
 use Rattle.engine.proofs.Moving.{stacked}
+use Rattle.engine.proofs.WordKinds.{not_so}
 
 -- ---- a wire that is emptied
 
@@ -59,20 +60,6 @@ lead_wired cost s next p a b c =
 
 -- ---- the kinds of words, from their 32 bits
 
-value_bits : (w : Word) → Small w → T (is_value w) → ValueBits (bits w)
-unfolding bits
-value_bits w s t = by (value_word w t)
-  where
-    by : ValueWord w → ValueBits (w.type * 2 ^ 28 + w.payload)
-    by (refers e) =
-        let a : w.type ≡ 1 = ap (λ (v : Word). v.type) e in
-        let p = s.payload in
-        record { least = rw a (omega arith); most = rw a (omega arith) }
-    by (nothing e) =
-        let a : w.type ≡ 2 = ap (λ (v : Word). v.type) e in
-        let p : w.payload ≡ 0 = ap (λ (v : Word). v.payload) e in
-        record { least = rw (a, p) (omega arith); most = rw (a, p) (omega arith) }
-
 pub none_bits : (w : Word) → Small w → bits w ≡ 2 ^ 29 → T (is_none w)
 unfolding bits is_none
 none_bits w s e =
@@ -84,36 +71,6 @@ none_bits w s e =
 pub bits_none : (w : Word) → T (is_none w) → bits w ≡ 2 ^ 29
 unfolding bits
 bits_none w t = ap bits (none_is w t)
-
-bits_value : (w : Word) → Small w → ValueBits (bits w) → T (is_value w)
-unfolding bits is_value is_ref
-bits_value w s v = by (ℕ_discrete w.type 1)
-  where
-    by : Dec (w.type ≡ 1) → T (is_value w)
-    by (yes e) = or_left (is_ref w) (is_none w) (eqb_of w.type 1 e)
-    by (no e) =
-        let p : w.payload < 2 ^ 28 = s.payload in
-        let a : 2 ^ 28 ≤ w.type * 2 ^ 28 + w.payload = v.least in
-        let b : w.type * 2 ^ 28 + w.payload ≤ 2 ^ 29 = v.most in
-        or_right (is_ref w) (is_none w) (none_bits w s (omega arith))
-
--- ---- the upper words
-
-downward_length : (ws : List Word) (i n : ℕ) → length (downward ws i n) ≡ n
-unfolding downward
-downward_length ws i zero = refl
-downward_length ws i (suc n) = ap suc (downward_length ws (i + 1) n)
-
-downward_at : (ws : List Word) (i n k : ℕ) → k < n → get_or (downward ws i n) k null ≡ below ws (i + k)
-unfolding downward
-downward_at ws i zero k h = absurd (not-suc-le-zero h)
-downward_at ws i (suc n) zero h = let e : i ≡ i + 0 = omega arith in ap (λ (j : ℕ). below ws j) e
-downward_at ws i (suc n) (suc k) h =
-    let e : i + 1 + k ≡ i + suc k = omega arith in
-    downward_at ws (i + 1) n k (omega arith) ∙ ap (λ (j : ℕ). below ws j) e
-
-downward_word : (ws : List Word) (n k : ℕ) → k < n → get_or (downward ws 0 n) k null ≡ below ws k
-downward_word ws n k h = let e : 0 + k ≡ k = omega arith in downward_at ws 0 n k h ∙ ap (λ (j : ℕ). below ws j) e
 
 -- ---- outputs, tested in their order
 
@@ -174,26 +131,13 @@ module _ {lim : Limits} {r : Regs} (f : Fit lim r) {st he : List ℕ} {ws hs : L
     unfolding below
     small_below k = small.each (length ws - (k + 1))
 
-    pub check_other : (cost i : ℕ) {b : Buffers} {q : Turn} → n ≤ r.sp - r.lp → FirstOther st r.sp n i → i < n
+    pub check_other : (cost : ℕ) {b : Buffers} {q : Turn} → n ≤ r.sp - r.lp → all is_value (downward ws 0 n) ≡ false
         → q ≡ halt r (ending.Fault 2) → Turned lim r b (priced cost (CheckOutputs P) s) q b
     unfolding CheckOutputs
-    check_other cost i {b} {q} k o l e =
+    check_other cost {b} {q} k o e =
         stops cost lim r b s (fault 2)
-        (enough k _
-        ∙ need_no (all is_value (downward ws 0 P.outputs)) 2 _
-        (λ t.
-        let m : i < length (downward ws 0 P.outputs) = rw (downward_length ws 0 P.outputs, many) l in
-        let v : T (is_value (below ws i)) = rw (downward_word ws P.outputs i (rw many l)) at (all_at is_value (downward ws 0 P.outputs) null t i m) in
-        o.at l (rw (bits_below i l k) (value_bits (below ws i) (small_below i) v))))
+        (enough k _ ∙ need_no (all is_value (downward ws 0 P.outputs)) 2 _ (λ t. not_so o (rw many at t)))
         e
-
-    each : (i : ℕ) → n ≤ r.sp - r.lp → FirstOther st r.sp n i → n ≤ i → T (all is_value (downward ws 0 P.outputs))
-    each i k o l =
-        all_of is_value (downward ws 0 P.outputs) null
-        (λ j m.
-        let x : j < n = rw (downward_length ws 0 P.outputs, many) at m in
-        let v : ValueBits (bits (below ws j)) = rw (bits_below j x k) at (o.before j (omega arith)) in
-        rw (downward_word ws P.outputs j (rw many x)) (bits_value (below ws j) (small_below j) v))
 
     module _ (inputs : ℕ) (left : P.inputs ≡ inputs) where
       stuck_holds : (k : ℕ) → k < n → n ≤ r.sp - r.lp → Stuck st r.sp wi inputs k → T (holds_up P s k)
@@ -214,27 +158,27 @@ module _ {lim : Limits} {r : Regs} (f : Fit lim r) {st he : List ℕ} {ws hs : L
                 (eqb_of (get_or wi (65 * (P.inputs + k)) 0) 0 (rw left e));
           }
 
-      ready : (i : ℕ) → n ≤ r.sp - r.lp → FirstOther st r.sp n i → n ≤ i → CheckOutputs P s ≡ checked P s 0 n
+      ready : n ≤ r.sp - r.lp → all is_value (downward ws 0 n) ≡ true → CheckOutputs P s ≡ checked P s 0 n
       unfolding CheckOutputs
-      ready i k o l =
+      ready k o =
           enough k _
-          ∙ need_yes (all is_value (downward ws 0 P.outputs)) 2 (checked P s 0 P.outputs) (each i k o l)
+          ∙ need_yes (all is_value (downward ws 0 P.outputs)) 2 (checked P s 0 P.outputs) (rw many (of_true o))
           ∙ ap (λ (m : ℕ). checked P s 0 m) many
 
-      pub check_stuck : (cost i j : ℕ) {b : Buffers} {q : Turn} → n ≤ r.sp - r.lp → FirstOther st r.sp n i → n ≤ i
-          → FirstStuck st r.sp wi inputs n j → j < n → q ≡ halt r (ending.Blocked j)
+      pub check_stuck : (cost j : ℕ) {b : Buffers} {q : Turn} → n ≤ r.sp - r.lp → all is_value (downward ws 0 n) ≡ true
+          → FirstStuck st r.sp wi inputs n (Some j) → q ≡ halt r (ending.Blocked j)
           → Turned lim r b (priced cost (CheckOutputs P) s) q b
-      check_stuck cost i j {b} {q} k o l t m e =
+      check_stuck cost j {b} {q} k o t e =
           stops cost lim r b s (blocked j)
-          (ready i k o l
-          ∙ checked_stuck P s 0 n j (omega arith) (omega arith)
-          (λ x y z. t.before x y (holds_stuck x (omega arith) k z)) (stuck_holds j m k (t.at m)))
+          (ready k o
+          ∙ checked_stuck P s 0 n j (omega arith) (omega (arith, t.0))
+          (λ x y z. t.1 x y (holds_stuck x (omega (arith, t.0)) k z)) (stuck_holds j t.0 k t.2))
           e
 
-      pub check_leads : (cost i j : ℕ) → n ≤ r.sp - r.lp → FirstOther st r.sp n i → n ≤ i
-          → FirstStuck st r.sp wi inputs n j → n ≤ j
+      pub check_leads : (cost : ℕ) → n ≤ r.sp - r.lp → all is_value (downward ws 0 n) ≡ true
+          → FirstStuck st r.sp wi inputs n None
           → Leads cost (priced cost (CheckOutputs P) s) (stacked r r.sp) ws hs wi or
-      check_leads cost i j k o l t m =
+      check_leads cost k o t =
           lead_still cost s (stacked r r.sp)
-          (ready i k o l ∙ checked_free P s 0 n (λ x y z. t.before x (omega arith) (holds_stuck x (omega arith) k z)))
+          (ready k o ∙ checked_free P s 0 n (λ x y z. t x (omega arith) (holds_stuck x (omega arith) k z)))
           h.sp h.hp h.lp

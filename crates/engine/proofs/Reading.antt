@@ -3,6 +3,7 @@ use mathlib.Core.Path.{◌≡◌, refl, sym, ap, ◌∙◌}
 use mathlib.Core.Bool.{Bool, true, false}
 use mathlib.Core.List.{List, [], ◌∷◌, ◌++◌, append_assoc, append-nil}
 use Prim.Native.Nat.{ℕ, zero, suc, ◌+◌, ◌-◌, ◌*◌, ◌^◌, ◌≤◌, ◌<◌}
+use Rattle.std.specs.Prelude.{Option, Some, None}
 use native.Mathlib.Omega.{arith}
 use native.Mathlib.Nat.{not-suc-le-zero, le_of_suc-le-suc}
 use native.Mathlib.Numerals.{add-one}
@@ -231,39 +232,39 @@ module _ {he : List ℕ} {q n : ℕ} (k : FieldsReadable he q n) where
 
 -- ---- the words, spread out
 
-spread_all_lem : (ws : List ℕ) (at end : ℕ) (w : List ℕ) → at + length ws ≤ end → Spread ws at end w (at + length ws) (sets w at ws)
-spread_all_lem ws at end w h = record { written = ws; inside = h; next_is = omega arith; whole = λ z. refl; wires_is = refl }
+spread_all_lem : (ws : List ℕ) (at end : ℕ) (w : List ℕ) → at + length ws ≤ end → Spread ws at end w (Some (at + length ws)) (sets w at ws)
+spread_all_lem ws at end w h = record { written = ws; inside = h; next_is = (refl, h); whole = λ z. refl; wires_is = refl }
 
 -- there is no room for the last of them
 spread_part : (ws done : List ℕ) (at end : ℕ) (w : List ℕ) → at + length done ≤ end → end < at + length ws
-    → Spread ws at end w (end + 1) (sets w at done)
+    → Spread ws at end w None (sets w at done)
 spread_part ws done at end w i h =
-    record { written = done; inside = i; next_is = omega arith; whole = λ z. absurd (omega arith); wires_is = refl }
+    record { written = done; inside = i; next_is = h; whole = λ z. absurd (omega arith); wires_is = refl }
 
 -- the index after them is not below `at`
-module _ {ws : List ℕ} {at end : ℕ} {w : List ℕ} {r : ℕ} {w' : List ℕ} (h : at ≤ end) (s : Spread ws at end w r w') where
-  pub spread_least : at ≤ r
-  spread_least = omega (arith, s.next_is)
+module _ {ws : List ℕ} {at end : ℕ} {w : List ℕ} {o : Option ℕ} {r : ℕ} {w' : List ℕ} (s : Spread ws at end w o w') (e : o ≡ Some r) where
+  pub spread_ends : (r ≡ at + length ws) × (r ≤ end)
+  spread_ends = rw e at s.next_is
 
-  pub spread_from : Spread ws at end w (at + (r - at)) w'
-  spread_from = let e : at + (r - at) ≡ r = omega (arith, s.next_is) in rw e s
+  pub spread_least : at ≤ r
+  spread_least = let n = spread_ends in omega arith
 
 module _ {he : List ℕ} {x : ℕ} (k : Readable he x) {at end : ℕ} (w : List ℕ) where
-  pub none_over : at ≤ end → end ≤ at → Spread (spreads k) at end w (end + 1) w
+  pub none_over : at ≤ end → end ≤ at → Spread (spreads k) at end w None w
   none_over i h =
       let s = spread_some k.words k.word in
       spread_part (spreads k) [] at end w (omega arith) (omega arith)
 
-  pub none_spread : at < end → x ≡ 2 ^ 29 → Spread (spreads k) at end w (at + 1) (set w at none_header)
+  pub none_spread : at < end → x ≡ 2 ^ 29 → Spread (spreads k) at end w (Some (at + 1)) (set w at none_header)
   none_spread h e = rw (reads_none k e) (spread_all_lem (none_header ∷ []) at end w (omega arith))
 
   module _ (n : x ≡ 2 ^ 29 → ⊥) where
-    pub two_over : at ≤ end → end < at + 2 → Spread (spreads k) at end w (end + 1) w
+    pub two_over : at ≤ end → end < at + 2 → Spread (spreads k) at end w None w
     two_over i h = let s = reads_two k n in spread_part (spreads k) [] at end w (omega arith) (omega arith)
 
     pub atom_spread : get_or he (x - 2 ^ 28) 0 < tuple_header → at + 2 ≤ end → {w' : List ℕ}
         → w' ≡ set (set w at (get_or he (x - 2 ^ 28) 0)) (at + 1) (get_or he (x - 2 ^ 28 + 1) 0)
-        → Spread (spreads k) at end w (at + 2) w'
+        → Spread (spreads k) at end w (Some (at + 2)) w'
     atom_spread a h e =
         rw (e, add-one at, reads_atom k n a)
         (spread_all_lem (get_or he (x - 2 ^ 28) 0 ∷ get_or he (x - 2 ^ 28 + 1) 0 ∷ []) at end w (omega arith))
@@ -297,15 +298,15 @@ partly_none {he} {x} k o a {q} {n} {at} {w} {w'} s t e =
 module _ {he : List ℕ} {x : ℕ} {k : Readable he x} {q n at : ℕ} {w : List ℕ} {out : ℕ} {w' : List ℕ}
     (p : Partly k q n at w out w') where
   -- all of them are
-  pub partly_all : {end : ℕ} → n ≡ 0 → out ≤ end → Spread (spreads k) at end w out w'
+  pub partly_all : {end : ℕ} → n ≡ 0 → out ≤ end → Spread (spreads k) at end w (Some out) w'
   partly_all {end} z h =
       let e : spreads k ≡ p.done =
       p.both ∙ ap (λ (l : List ℕ). p.done ++ l) (reads_end p.rest z) ∙ append-nil p.done in
       rw (e, p.wires_is, p.out_is) (spread_all_lem p.done at end w (omega (arith, p.out_is)))
 
-  module _ (z : n ≡ 0 → ⊥) {end next : ℕ} {w₁ : List ℕ}
-      (c : (f : Readable he (get_or he q 0)) → Spread (spreads f) out end w' next w₁) where
-    first : Spread (spreads (reads_first p.rest z)) out end w' next w₁
+  module _ (z : n ≡ 0 → ⊥) {end : ℕ} {o : Option ℕ} {w₁ : List ℕ}
+      (c : (f : Readable he (get_or he q 0)) → Spread (spreads f) out end w' o w₁) where
+    first : Spread (spreads (reads_first p.rest z)) out end w' o w₁
     first = c (reads_first p.rest z)
 
     -- the words of one field more
@@ -326,26 +327,28 @@ module _ {he : List ℕ} {x : ℕ} {k : Readable he x} {q n at : ℕ} {w : List 
     split = p.both ∙ ap (λ (l : List ℕ). p.done ++ l) (reads_both p.rest z)
 
     -- it doesn't end in time
-    pub partly_over : end < next → Spread (spreads k) at end w (end + 1) w₁
+    pub partly_over : o ≡ None → Spread (spreads k) at end w None w₁
     partly_over h =
+        let late : end < out + length (spreads (reads_first p.rest z)) = rw h at first.next_is in
         let a = spreads (reads_first p.rest z) in
         let b = spreads_all (reads_later p.rest z) in
         let e = ap (λ (l : List ℕ). length l) split ∙ length-append p.done (a ++ b) in
         let f = length-append a b in
         rw more_is
         (spread_part (spreads k) more at end w (let m = more_long in omega (arith, first.inside))
-        (omega (arith, first.next_is, p.out_is)))
+        (omega (arith, p.out_is)))
 
-    pub partly_more : {q' n' : ℕ} → q' ≡ q + 1 → n' ≡ n - 1 → next ≤ end → Partly k q' n' at w next w₁
+    pub partly_more : {q' n' next : ℕ} → q' ≡ q + 1 → n' ≡ n - 1 → o ≡ Some next → Partly k q' n' at w next w₁
     partly_more {q'} {n'} s t h =
+        let ends = spread_ends first h in
         let a = spreads (reads_first p.rest z) in
         let b = spreads_all (reads_later p.rest z) in
-        let e : first.written ≡ a = first.whole (omega (arith, first.next_is)) in
+        let e : first.written ≡ a = first.whole (omega (arith, ends.0, ends.1)) in
         rw (s, t)
         (record {
           rest = reads_later p.rest z;
           done = more;
-          out_is = (let l = ap (λ (y : List ℕ). length y) e in omega (arith, first.next_is)) ∙ sym more_long;
+          out_is = (let l = ap (λ (y : List ℕ). length y) e in omega (arith, ends.0)) ∙ sym more_long;
           wires_is = more_is;
           both = split ∙ sym (append_assoc p.done a b) ∙ rw e refl;
         })

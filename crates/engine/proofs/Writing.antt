@@ -2,12 +2,13 @@
 use mathlib.Core.Path.{◌≡◌, refl, sym, ap, ◌∙◌, subst}
 use mathlib.Core.Bool.{Bool, true, false}
 use mathlib.Core.List.{List, [], ◌∷◌, ◌++◌, append_assoc}
-use Prim.Native.Nat.{ℕ, suc, ◌+◌, ◌-◌, ◌*◌, ◌^◌, ◌≤◌, ◌<◌, min}
+use Prim.Native.Nat.{ℕ, suc, ◌+◌, ◌-◌, ◌*◌, ◌^◌, ◌≤◌, ◌<◌}
 use native.Mathlib.Omega.{arith}
 use native.Mathlib.Numerals.{add-one}
 use lib.Dec.{T, leb, eqb, leb→le, le→leb, eqb→eq}
 use lib.ListN.{length, get_or, set, take, drop, replicate, length-append, length-drop, length-replicate, get_or-replicate, take-append-drop}
 use lib.Seq.{sets, paste, sets-eq, set-get_or, get_or-append-add, get_or-take, get_or-drop, length-take-le, drop-drop, ext_get_or}
+use Rattle.std.specs.Prelude.{Option, Some, None, option_map, Result, Ok, Err}
 use Rattle.limits.specs.Machine.{Act, ends}
 use Rattle.hume.specs.Tests.{pick, all}
 use Rattle.hume.specs.Words.{Word, null, link, raw, bits, is_ref, is_none, is_value}
@@ -24,13 +25,13 @@ use Rattle.laws.proofs.Words.{bits_raw}
 use Rattle.laws.proofs.Small.{small_raw, raw_bits}
 use Rattle.laws.proofs.Deeds.{need_yes, need_no}
 use Rattle.engine.specs.Fits.{Fit}
-use Rattle.engine.specs.Copies.{WireFits, Readable, Spread, Offered, room, unless, room_of, TopHeld}
+use Rattle.engine.specs.Copies.{WireFits, Readable, Spread, Offered, unless, room_of, TopHeld}
 use Rattle.engine.specs.Turns.{Smalls, core, Holds, halt, Buffers, buffers, Turned, priced}
+use Rattle.engine.specs.declared.Ending.{Ending}
 use Rattle.engine.specs.declared.Ending.TheVariants as ending
 use Rattle.engine.specs.declared.regs.Limits.{Limits}
 use Rattle.engine.specs.declared.regs.Regs.{Regs}
 use Rattle.engine.specs.declared.regs.Turn.{Turn}
-use Rattle.engine.specs.declared.wiring.Room.{Room}
 use Rattle.engine.proofs.Turning.{Leads, stops, values_are, reads_below}
 use Rattle.engine.proofs.Areas.{locals_take}
 use Rattle.engine.proofs.Moving.{stacked}
@@ -188,15 +189,15 @@ offered_reads k v =
 -- ---- the room for it
 
 module _ {he : List ℕ} {x : ℕ} (k : Offered he x) (c : ℕ) where
-  abbrev Is : Room → Type 0
+  abbrev Is : Result ℕ Ending → Type 0
   Is t = t ≡ room_of k.words k.word c
 
-  pub room_other : is_value k.word ≡ false → Is (room 2 0)
+  pub room_other : is_value k.word ≡ false → Is (Err (ending.Fault 2))
   unfolding room_of
   room_other v = sym (pick_false (is_value k.word) _ _ (not_so v))
 
   module _ (v : is_value k.word ≡ true) where
-    pub room_none : x ≡ 2 ^ 29 → Is (room 0 0)
+    pub room_none : x ≡ 2 ^ 29 → Is (Ok 0)
     unfolding room_of
     room_none e =
         sym
@@ -204,17 +205,17 @@ module _ {he : List ℕ} {x : ℕ} (k : Offered he x) (c : ℕ) where
         ∙ pick_true (is_none k.word) _ _ (none_bits k.word k.small (sym k.is ∙ e)))
 
     module _ (d : x ≡ 2 ^ 29 → ⊥) where
-      some : (t : Room) → pick (is_value k.word) (pick (is_none k.word) (room 0 0) t) (room 2 0) ≡ t
+      some : (t : Result ℕ Ending) → pick (is_value k.word) (pick (is_none k.word) (Ok 0) t) (Err (ending.Fault 2)) ≡ t
       some t =
           pick_true (is_value k.word) _ _ (of_true v)
           ∙ pick_false (is_none k.word) _ _ (λ n. d (k.is ∙ bits_none k.word n))
 
-      pub room_full : (c ≡ 0 → ⊥) → Is (room 5 0)
+      pub room_full : (c ≡ 0 → ⊥) → Is (Err (ending.Fault 5))
       unfolding room_of
       room_full z = sym (some _ ∙ pick_false (eqb c 0) _ _ (λ t. z (eqb→eq c 0 t)))
 
-      module _ (z : c ≡ 0) {n : ℕ} (long : n ≡ min (length (spread k.words k.word)) 65) where
-        pub room_over : 64 < n → Is (room 6 0)
+      module _ (z : c ≡ 0) where
+        pub room_over : 64 < length (spread k.words k.word) → Is (Err (ending.Fault 6))
         unfolding room_of
         room_over l =
             sym
@@ -223,33 +224,35 @@ module _ {he : List ℕ} {x : ℕ} (k : Offered he x) (c : ℕ) where
             ∙ pick_false (leb (length (spread k.words k.word)) 64) _ _
             (λ t. let m = leb→le (length (spread k.words k.word)) 64 t in omega arith))
 
-        pub room_fits : n ≤ 64 → Is (room 0 n)
+        pub room_fits : {n : ℕ} → n ≡ length (spread k.words k.word) → n ≤ 64 → Is (Ok n)
         unfolding room_of
-        room_fits l =
-            let e : n ≡ length (spread k.words k.word) = omega arith in
+        room_fits {n} e l =
             sym
             (some _
             ∙ pick_true (eqb c 0) _ _ (eqb_of c 0 z)
             ∙ pick_true (leb (length (spread k.words k.word)) 64) _ _
             (le→leb (length (spread k.words k.word)) 64 (omega arith))
-            ∙ ap (λ (m : ℕ). room 0 m) (sym e))
+            ∙ ap (λ (m : ℕ). Ok m) (sym e))
 
 -- ---- what there is room for
 
 -- room_of, of its four tests
-abbrev rooms : Bool → Bool → Bool → Bool → ℕ → Room
-rooms a b d g n = unless a 2 (pick b (room 0 0) (unless d 5 (unless g 6 (room 0 n))))
+abbrev rooms : Bool → Bool → Bool → Bool → ℕ → Result ℕ Ending
+rooms a b d g n = unless a 2 (pick b (Ok 0) (unless d 5 (unless g 6 (Ok n))))
+
+-- a deed, by the room that there is
+abbrev Does : (ℕ → Deed) → Result ℕ Ending → Deed → Type 0
+Does f (Ok n) d = d ≡ f n
+Does f (Err e) d = (k : ℕ) × (e ≡ ending.Fault k) × (d ≡ ends (fault k))
 
 -- the same tests are Write's
 tests_as : (a b d g : Bool) (n : ℕ) → 1 ≤ n → (f : List ℕ → Deed) (w w' : List ℕ)
-    → need a 2 (pick b (f w) (need d 5 (need g 6 (f w'))))
-    ≡ pick (eqb (rooms a b d g n).fault 0) (f (pick (eqb (rooms a b d g n).n 0) w w'))
-    (ends (fault (rooms a b d g n).fault))
+    → Does (λ m. f (pick (eqb m 0) w w')) (rooms a b d g n) (need a 2 (pick b (f w) (need d 5 (need g 6 (f w')))))
 unfolding need pick
-tests_as false b d g n l f w w' = refl
+tests_as false b d g n l f w w' = (2, refl, refl)
 tests_as true true d g n l f w w' = refl
-tests_as true false false g n l f w w' = refl
-tests_as true false true false n l f w w' = refl
+tests_as true false false g n l f w w' = (5, refl, refl)
+tests_as true false true false n l f w w' = (6, refl, refl)
 tests_as true false true true n l f w w' =
     ap f (sym (pick_false (eqb n 0) w w' (λ t. let e : n ≡ 0 = eqb→eq n 0 t in omega arith)))
 
@@ -258,21 +261,13 @@ record Passed (d g : Bool) (m n : ℕ) : Type 0 where
   few : T g
   long : m ≡ n
 
-tests_pass : (a b d g : Bool) (n : ℕ) → ((rooms a b d g n).n ≡ 0 → ⊥) → Passed d g (rooms a b d g n).n n
+tests_pass : (a b d g : Bool) (n : ℕ) {m : ℕ} → rooms a b d g n ≡ Ok m → (m ≡ 0 → ⊥) → Passed d g m n
 unfolding pick
-tests_pass false b d g n k = absurd (k refl)
-tests_pass true true d g n k = absurd (k refl)
-tests_pass true false false g n k = absurd (k refl)
-tests_pass true false true false n k = absurd (k refl)
-tests_pass true false true true n k = record { empty = tt; few = tt; long = refl }
-
-tests_fail : (a b d g : Bool) (n : ℕ) → ((rooms a b d g n).fault ≡ 0 → ⊥) → (rooms a b d g n).n ≡ 0
-unfolding pick
-tests_fail false b d g n k = refl
-tests_fail true true d g n k = refl
-tests_fail true false false g n k = refl
-tests_fail true false true false n k = refl
-tests_fail true false true true n k = absurd (k refl)
+tests_pass false b d g n e k = let z : ◌≡◌ {A = ℕ} 0 1 = cc in absurd (let w : ⊥ = omega (arith, z) in w)
+tests_pass true true d g n {m} e k = let z : m ≡ 0 = cc in absurd (k z)
+tests_pass true false false g n e k = let z : ◌≡◌ {A = ℕ} 0 1 = cc in absurd (let w : ⊥ = omega (arith, z) in w)
+tests_pass true false true false n e k = let z : ◌≡◌ {A = ℕ} 0 1 = cc in absurd (let w : ⊥ = omega (arith, z) in w)
+tests_pass true false true true n {m} e k = let z : m ≡ n = cc in record { empty = tt; few = tt; long = z }
 
 -- words are written only to an empty wire
 pub record Roomy (hs : List Word) (v : Word) (c n : ℕ) : Type 0 where
@@ -280,19 +275,13 @@ pub record Roomy (hs : List Word) (v : Word) (c n : ℕ) : Type 0 where
   pub few : length (spread hs v) ≤ 64
   pub long : n ≡ length (spread hs v)
 
-pub roomy : {hs : List Word} {v : Word} {c : ℕ} {t : Room} → t ≡ room_of hs v c → (t.n ≡ 0 → ⊥) → Roomy hs v c t.n
+pub roomy : {hs : List Word} {v : Word} {c n : ℕ} {t : Result ℕ Ending} → t ≡ room_of hs v c → t ≡ Ok n → (n ≡ 0 → ⊥)
+    → Roomy hs v c n
 unfolding room_of
-roomy {hs} {v} {c} {t} e k =
+roomy {hs} {v} {c} {n} e o k =
     let m = length (spread hs v) in
-    let p : Passed (eqb c 0) (leb m 64) t.n m =
-    rw e (tests_pass (is_value v) (is_none v) (eqb c 0) (leb m 64) m (rw e at k)) in
+    let p : Passed (eqb c 0) (leb m 64) n m = tests_pass (is_value v) (is_none v) (eqb c 0) (leb m 64) m (sym e ∙ o) k in
     record { empty = eqb→eq c 0 p.empty; few = leb→le m 64 p.few; long = p.long }
-
--- none with a fault
-pub faulty : (hs : List Word) (v : Word) (c : ℕ) {t : Room} → t ≡ room_of hs v c → (t.fault ≡ 0 → ⊥) → t.n ≡ 0
-unfolding room_of
-faulty hs v c {t} e k =
-    let m = length (spread hs v) in rw e (tests_fail (is_value v) (is_none v) (eqb c 0) (leb m 64) m (rw e at k))
 
 -- ---- what is on the wires after
 
@@ -304,19 +293,29 @@ put_some : {n : ℕ} (w w' : List ℕ) → (n ≡ 0 → ⊥) → pick (eqb n 0) 
 put_some {n} w w' z = pick_false (eqb n 0) w w' (λ t. z (eqb→eq n 0 t))
 
 -- the words are spread out on the wire at the index `at`
-module _ (at n : ℕ) {ws w w' : List ℕ} (s : Spread ws (at + 1) (at + 65) w (at + 1 + n) w') where
-  pub spread_long : n ≡ min (length ws) 65
-  spread_long = omega (arith, s.next_is)
-
+module _ (at : ℕ) {ws w w' : List ℕ} (o : Option ℕ) (s : Spread ws (at + 1) (at + 65) w (option_map (λ n. at + 1 + n) o) w') where
   pub spread_few : length s.written ≤ 64
   spread_few = omega (arith, s.inside)
 
-  pub spread_put : 1 ≤ length ws → n ≤ 64 → w' ≡ pick (eqb n 0) w (sets w (at + 1) ws)
-  spread_put l h =
-      let e = s.whole (omega (arith, s.next_is)) in
-      s.wires_is
-      ∙ ap (λ (x : List ℕ). sets w (at + 1) x) e
-      ∙ sym (put_some w (sets w (at + 1) ws) (λ (z : n ≡ 0). omega (arith, s.next_is)))
+  pub spread_over : o ≡ None → 64 < length ws
+  spread_over e = let h : at + 65 < at + 1 + length ws = rw e at s.next_is in omega arith
+
+  module _ {n : ℕ} (e : o ≡ Some n) where
+    spread_next : (at + 1 + n ≡ at + 1 + length ws) × (at + 1 + n ≤ at + 65)
+    spread_next = rw e at s.next_is
+
+    pub spread_long : n ≡ length ws
+    spread_long = omega (arith, spread_next.0)
+
+    pub spread_fits : n ≤ 64
+    spread_fits = omega (arith, spread_next.1)
+
+    pub spread_put : 1 ≤ length ws → w' ≡ pick (eqb n 0) w (sets w (at + 1) ws)
+    spread_put l =
+        let i = spread_next in
+        s.wires_is
+        ∙ ap (λ (x : List ℕ). sets w (at + 1) x) (s.whole (omega (arith, i.0, i.1)))
+        ∙ sym (put_some w (sets w (at + 1) ws) (λ (z : n ≡ 0). omega (arith, i.0)))
 
 -- the wire o with the words ws, or what was there if n is 0
 abbrev put : List ℕ → ℕ → ℕ → List ℕ → List ℕ
@@ -372,38 +371,39 @@ module _ {lim : Limits} {r : Regs} (f : Fit lim r) {st he : List ℕ} {ws hs : L
       enough : (d : Deed) → need (leb 1 (values s)) 1 d ≡ d
       enough d = need_yes (leb 1 (values s)) 1 d (le→leb 1 (values s) (rw (values_are h wi or false) (omega arith)))
 
-      module _ (inputs : ℕ) (p : P.inputs ≡ inputs) {t : Room}
+      module _ (inputs : ℕ) (p : P.inputs ≡ inputs) {t : Result ℕ Ending}
           (e : t ≡ room_of hs (below ws 0) (get_or wi (65 * (inputs + a)) 0)) where
         abbrev leaves : List ℕ → Deed
         leaves w = rewires s (without 1 ws) w
 
-        write_is : Write P a s
-            ≡ pick (eqb t.fault 0) (leaves (put wi (inputs + a) t.n (spread hs (below ws 0))))
-            (ends (fault t.fault))
+        write_does : Does (λ n. leaves (put wi (inputs + a) n (spread hs (below ws 0)))) t (Write P a s)
         unfolding Write room_of is_empty wire_count output_at
-        write_is =
+        write_does =
             let v = below ws 0 in
-            rw e
-            (enough _
+            let same : Write P a s
+            ≡ need (is_value v) 2
+            (pick (is_none v) (leaves wi)
+            (need (eqb (get_or wi (65 * (inputs + a)) 0) 0) 5
+            (need (leb (length (spread hs v)) 64) 6 (leaves (set_wire wi (inputs + a) (spread hs v)))))) =
+            enough _
             ∙ ap (λ (i : ℕ). need (is_value v) 2 (pick (is_none v) (leaves wi) (need (eqb (get_or wi (65 * (i + a)) 0) 0) 5
-            (need (leb (length (spread hs v)) 64) 6 (leaves (set_wire wi (i + a) (spread hs v))))))) p
-            ∙ tests_as (is_value v) (is_none v) (eqb (get_or wi (65 * (inputs + a)) 0) 0) (leb (length (spread hs v)) 64)
+            (need (leb (length (spread hs v)) 64) 6 (leaves (set_wire wi (i + a) (spread hs v))))))) p in
+            rw (e, same)
+            (tests_as (is_value v) (is_none v) (eqb (get_or wi (65 * (inputs + a)) 0) 0) (leb (length (spread hs v)) 64)
             (length (spread hs v)) (spread_some hs v) leaves wi (set_wire wi (inputs + a) (spread hs v)))
 
-        pub write_stops : (cost : ℕ) {b : Buffers} {q : Turn} → (t.fault ≡ 0 → ⊥) → q ≡ halt r (ending.Fault t.fault)
+        pub write_stops : (cost : ℕ) {x : Ending} {b : Buffers} {q : Turn} → t ≡ Err x → q ≡ halt r x
             → Turned lim r b (priced cost (Write P a) s) q b
-        write_stops cost {b} {q} k g =
-            stops cost lim r b s (fault t.fault)
-            (write_is ∙ pick_false (eqb t.fault 0) _ _ (λ z. k (eqb→eq t.fault 0 z)))
-            g
+        write_stops cost {x} {b} {q} z g =
+            let d : (k : ℕ) × (x ≡ ending.Fault k) × (Write P a s ≡ ends (fault k)) = rw z at write_does in
+            stops cost lim r b s (fault d.0) d.2 (g ∙ ap (halt r) d.1)
 
-        pub write_leads : (cost : ℕ) → t.fault ≡ 0
+        pub write_leads : (cost : ℕ) {n : ℕ} → t ≡ Ok n
             → Leads cost (priced cost (Write P a) s) (stacked r (r.sp - 1)) (without 1 ws) hs
-            (put wi (inputs + a) t.n (spread hs (below ws 0))) or
-        write_leads cost z =
-            lead_wired cost s (stacked r (r.sp - 1))
-            (write_is ∙ pick_true (eqb t.fault 0) _ _ (eqb_of t.fault 0 z))
-            (less l) h.hp (same_lp l)
+            (put wi (inputs + a) n (spread hs (below ws 0))) or
+        write_leads cost {n} z =
+            let d : Write P a s ≡ leaves (put wi (inputs + a) n (spread hs (below ws 0))) = rw z at write_does in
+            lead_wired cost s (stacked r (r.sp - 1)) d (less l) h.hp (same_lp l)
 
 -- ---- what every state that is reached gives
 

@@ -1,5 +1,5 @@
 -- Copies between a wire and the heap: what stands where one begins, and what it leaves.
-use Rattle.std.specs.Prelude.{◌≡◌, Bool, List, ◌∷◌, ◌++◌, map, ℕ, ◌+◌, ◌-◌, ◌*◌, ◌^◌, ◌≤◌, ◌<◌, min, T, leb, eqb, length, get_or, take, drop}
+use Rattle.std.specs.Prelude.{◌≡◌, Bool, Option, Some, None, MatchOption, Result, Ok, Err, List, ◌∷◌, ◌++◌, map, ℕ, ◌+◌, ◌-◌, ◌*◌, ◌^◌, ◌≤◌, ◌<◌, T, leb, eqb, length, get_or, take, drop}
 use Rattle.std.proofs.lemmas.List.Edits.{sets}
 use Rattle.hume.specs.Tests.{pick}
 use Rattle.hume.specs.Words.{Word, bits, is_none, is_value}
@@ -8,7 +8,8 @@ use Rattle.laws.specs.Sizes.{size, sizes, Small}
 use Rattle.laws.specs.Whole.{Held}
 use Rattle.engine.specs.Turns.{Bears, Smalls}
 use Rattle.engine.specs.declared.regs.Regs.{Regs}
-use Rattle.engine.specs.declared.wiring.Room.{Room}
+use Rattle.engine.specs.declared.Ending.{Ending}
+use Rattle.engine.specs.declared.Ending.TheVariants as ending
 
 -- ---- wires
 
@@ -19,29 +20,17 @@ pub record WireFits (w : List ℕ) (i : ℕ) : Type 0 where
   pub inside : i < wires
   pub ok : T (wire_ok w i)
 
--- ---- the words of the outputs, read from the top down
-
--- the 32 bits of a reference or of None
-pub record ValueBits (x : ℕ) : Type 0 where
-  pub least : 2 ^ 28 ≤ x
-  pub most : x ≤ 2 ^ 29
-
--- r is the first of n that isn't a reference or None
-pub record FirstOther (st : List ℕ) (sp n r : ℕ) : Type 0 where
-  pub most : r ≤ n
-  pub before : (k : ℕ) → k < r → ValueBits (get_or st (sp - (k + 1)) 0)
-  pub at : r < n → ValueBits (get_or st (sp - (r + 1)) 0) → ⊥
+-- ---- the outputs, whose words are read from the top down
 
 -- the output k isn't None and its wire is full
 pub record Stuck (st : List ℕ) (sp : ℕ) (w : List ℕ) (inputs k : ℕ) : Type 0 where
   pub some : get_or st (sp - (k + 1)) 0 ≡ 2 ^ 29 → ⊥
   pub full : get_or w (65 * (inputs + k)) 0 ≡ 0 → ⊥
 
--- r is the first of n outputs that is stuck
-pub record FirstStuck (st : List ℕ) (sp : ℕ) (w : List ℕ) (inputs n r : ℕ) : Type 0 where
-  pub most : r ≤ n
-  pub before : (k : ℕ) → k < r → Stuck st sp w inputs k → ⊥
-  pub at : r < n → Stuck st sp w inputs r
+-- the first of n outputs that is stuck, if one is
+abbrev pub FirstStuck : List ℕ → ℕ → List ℕ → ℕ → ℕ → Option ℕ → Type 0
+FirstStuck st sp w inputs n None = (k : ℕ) → k < n → Stuck st sp w inputs k → ⊥
+FirstStuck st sp w inputs n (Some r) = (r < n) × ((k : ℕ) → k < r → Stuck st sp w inputs k → ⊥) × Stuck st sp w inputs r
 
 -- ---- from a wire to the heap
 
@@ -104,12 +93,12 @@ pub record Readable (he : List ℕ) (x : ℕ) : Type 0 where
 abbrev pub spreads : {he : List ℕ} {x : ℕ} → Readable he x → List ℕ
 spreads k = spread k.words k.word
 
--- The words ws are spread from the index `at` on if they end at `end` or before: r is the index after them, or end + 1. Of
--- words that don't, some may have been written, none of them at `end` or after.
-pub record Spread (ws : List ℕ) (at end : ℕ) (w : List ℕ) (r : ℕ) (w' : List ℕ) : Type 0 where
+-- The words ws are spread from the index `at` on if they end at `end` or before: r is the index after them. Of words that don't,
+-- some may have been written, none of them at `end` or after.
+pub record Spread (ws : List ℕ) (at end : ℕ) (w : List ℕ) (r : Option ℕ) (w' : List ℕ) : Type 0 where
   pub written : List ℕ
   pub inside : at + length written ≤ end
-  pub next_is : r ≡ min (at + length ws) (end + 1)
+  pub next_is : MatchOption r (end < at + length ws) (λ n. (n ≡ at + length ws) × (n ≤ end))
   pub whole : at + length ws ≤ end → written ≡ ws
   pub wires_is : w' ≡ sets w at written
 
@@ -123,21 +112,23 @@ pub record Offered (he : List ℕ) (x : ℕ) : Type 0 where
   pub is : x ≡ bits word
   pub held : T (is_value word) → Held words word
 
-abbrev pub room : ℕ → ℕ → Room
-room k n = record { fault = k; n = n }
-
 -- the room t if the test passes, else the fault k
-abbrev pub unless : Bool → ℕ → Room → Room
-unless b k t = pick b t (room k 0)
+abbrev pub unless : Bool → ℕ → Result ℕ Ending → Result ℕ Ending
+unless b k t = pick b t (Err (ending.Fault k))
 
--- The room for the word v on a wire with the count c: "2 wrong kind of word or cell"; "None writes nothing"; "5 Write of a
--- reference to a full wire; 6 value over 64 wire words"
-unfoldable pub room_of : List Word → Word → ℕ → Room
+-- The room for the word v on a wire with the count c, how many words it takes: "2 wrong kind of word or cell"; "None writes
+-- nothing"; "5 Write of a reference to a full wire; 6 value over 64 wire words"
+unfoldable pub room_of : List Word → Word → ℕ → Result ℕ Ending
 room_of hs v c =
     unless (is_value v) 2
-    (pick (is_none v) (room 0 0)
+    (pick (is_none v) (Ok 0)
     (unless (eqb c 0) 5
-    (unless (leb (length (spread hs v)) 64) 6 (room 0 (length (spread hs v))))))
+    (unless (leb (length (spread hs v)) 64) 6 (Ok (length (spread hs v))))))
+
+-- the words that are written, none where there is a fault
+abbrev pub taken : Result ℕ Ending → ℕ
+taken (Ok n) = n
+taken (Err e) = 0
 
 -- The value on top of the stack, if there is one, is held by the words that the heap bears.
 pub record TopHeld (r : Regs) (st he : List ℕ) : Type 0 where

@@ -106,7 +106,7 @@ impl Regs {
 }
 
 // Whether the a words from the top down are references or None.
-fn all_values(stack: &[u32], sp: usize, a: usize) -> bool
+pub(crate) fn all_values(stack: &[u32], sp: usize, a: usize) -> bool
     requires { (a ≤ sp) × (sp ≤ length stack.now) }
     ensures { (ws : List Word) → Bears stack.now ws → Smalls ws → sp ≡ length ws → result ≡ all is_value (downward ws 0 a) }
 {

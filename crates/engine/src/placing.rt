@@ -5,6 +5,8 @@ ghost use Rattle.hume.specs.Values.{block};
 ghost use Rattle.laws.specs.Sizes.{heads};
 ghost use Rattle.engine.specs.Copies.{CellHere, ValueHere, BlockHere, Copied, CellPlaced};
 
+use super::words::{NONE, NONE_CELL, REFERENCE, TUPLE};
+
 // After a cell: the next index of the wire's words, the next free place of the heap, and the word that refers to the cell.
 #[derive(Clone, Copy)]
 struct Placed {
@@ -13,7 +15,8 @@ struct Placed {
     word: u32,
 }
 
-// How many heap words a copy of the value that the k words are places, known before anything is written: one pass over its cells.
+// How many heap words a copy of the value that the k words are places, known before anything is written: one pass over its cells,
+// which are of one word or two (so `while`).
 pub(crate) fn count_words(wires: &[u32], from: usize, k: usize) -> usize
     requires k_in_bounds { from + k ≤ length wires.now }
     requires le_k { 1 ≤ k }
@@ -22,7 +25,7 @@ pub(crate) fn count_words(wires: &[u32], from: usize, k: usize) -> usize
     let mut i = 0;
     let mut n = 0;
     while i < k {
-        if wires[from + i] == 458752 {
+        if wires[from + i] == NONE_CELL {
             i += 1;
         } else {
             i += 2;
@@ -48,14 +51,8 @@ fn move_down(heap: &mut [u32], from: usize, to: usize, n: usize)
     requires n_in_bounds { from + n ≤ length heap.old }
     ensures { heap.new ≡ sets heap.old to (take n (drop from heap.old)) }
 {
-    if to == from {
-        return;
-    }
-    let mut j = 0;
-    while j < n {
-        let w = heap[from + j];
-        heap[to + j] = w;
-        j += 1;
+    if to != from {
+        heap.copy_within(from..from + n, to);
     }
 }
 
@@ -66,15 +63,14 @@ pub(crate) fn place(wires: &[u32], i: usize, heap: &mut [u32], hp: usize, end: u
     ensures { (k : ValueHere wires.now i hp end (length heap.old)) → Copied k.cell.value hp heap.old result heap.new }
 {
     let h = wires[i];
-    if h == 458752 {
-        return 536870912;
+    if h == NONE_CELL {
+        return NONE;
     }
-    if h < 262144 {
+    if h < TUPLE {
         put_pair(wires, i, heap, hp);
-        return 268435456 + hp as u32;
+        return REFERENCE + hp as u32;
     }
-    let placed = place_block(&*wires, i, heap, hp, end);
-    placed.word
+    place_block(&*wires, i, heap, hp, end).word
 }
 
 // "A copy to the heap places all fields, in order, before their object, so fields always refer lower." The copier of a list of
@@ -89,20 +85,18 @@ fn place_block(wires: &[u32], from: usize, heap: &mut [u32], hp: usize, end: usi
     let base = end - n;
     let mut i = from + 2;
     let mut top = hp;
-    let mut k = 0;
-    while k < n {
+    for k in 0..n {
         let cell = place_cell(wires, i, heap, top, base);
         i = cell.next;
         top = cell.top;
         heap[base + k] = cell.word;
-        k += 1;
     }
     put_pair(wires, from, heap, top);
     move_down(heap, base, top + 2, n);
     Placed {
         next: i,
         top: top + 2 + n,
-        word: 268435456 + top as u32,
+        word: REFERENCE + top as u32,
     }
 }
 
@@ -113,19 +107,19 @@ fn place_cell(wires: &[u32], i: usize, heap: &mut [u32], hp: usize, end: usize) 
     ensures { (k : CellHere wires.now i hp end (length heap.old)) → CellPlaced k.value i hp end heap.old result.next result.top result.word heap.new }
 {
     let h = wires[i];
-    if h == 458752 {
+    if h == NONE_CELL {
         return Placed {
             next: i + 1,
             top: hp,
-            word: 536870912,
+            word: NONE,
         };
     }
-    if h < 262144 {
+    if h < TUPLE {
         put_pair(wires, i, heap, hp);
         return Placed {
             next: i + 2,
             top: hp + 2,
-            word: 268435456 + hp as u32,
+            word: REFERENCE + hp as u32,
         };
     }
     place_block(&*wires, i, heap, hp, end)

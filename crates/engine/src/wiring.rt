@@ -8,97 +8,62 @@ ghost use Rattle.hume.specs.Values.{spread};
 ghost use Rattle.hume.specs.Instructions.{CopyInput, Consume, CheckOutputs, Write};
 ghost use Rattle.engine.specs.Turns.{Meets, priced, buffers};
 ghost use Rattle.engine.specs.Fits.{Fit};
-ghost use Rattle.engine.specs.Copies.{WireFits, FirstOther, FirstStuck, Offered, room_of, TopHeld};
+ghost use Rattle.engine.specs.Copies.{WireFits, FirstStuck, Offered, room_of, taken, TopHeld};
 
 use super::Ending;
+use super::builds::all_values;
 use super::placing::{count_words, place};
 use super::regs::{Limits, Regs, Turn};
 use super::spreading::spread;
-use super::words::is_value;
+use super::words::{NONE, is_value};
 
 // The 65 words of the wire at the index `at` become 0.
 fn clear_wire(wires: &mut [u32], at: usize)
     requires { at + 65 ≤ length wires.old }
     ensures { wires.new ≡ paste wires.old at (replicate 65 0) 65 }
 {
-    let mut i = 0;
-    while i < 65 {
-        wires[at + i] = 0;
-        i += 1;
-    }
+    wires[at..at + 65].fill(0);
 }
 
-// The first of the n upper words, from the top down, that isn't a reference or None; n if each is.
-fn first_other(stack: &[u32], sp: usize, n: usize) -> usize
-    requires n_le_sp { n ≤ sp }
-    requires sp_in_bounds { sp ≤ length stack.now }
-    ensures { FirstOther stack.now sp n result }
-{
-    let mut i = 0;
-    while i < n {
-        let w = stack[sp - (i + 1)];
-        if w < 268435456 {
-            return i;
-        }
-        if 536870912 < w {
-            return i;
-        }
-        i += 1;
-    }
-    i
-}
-
-// "blocked if one isn't None and its wire is full (the lowest such i)": that i, or n if there is none.
-fn first_stuck(stack: &[u32], sp: usize, wires: &[u32], inputs: usize, n: usize) -> usize
+// "blocked if one isn't None and its wire is full (the lowest such i)"
+fn first_stuck(stack: &[u32], sp: usize, wires: &[u32], inputs: usize, n: usize) -> Option<usize>
     requires n_le_sp { n ≤ sp }
     requires sp_in_bounds { sp ≤ length stack.now }
     requires n_in_bounds { 65 * (inputs + n) ≤ length wires.now }
     ensures { FirstStuck stack.now sp wires.now inputs n result }
 {
-    let mut i = 0;
-    while i < n {
-        if stack[sp - (i + 1)] != 536870912 {
-            if wires[65 * (inputs + i)] != 0 {
-                return i;
-            }
+    for i in 0..n {
+        if stack[sp - (i + 1)] != NONE && wires[65 * (inputs + i)] != 0 {
+            return Some(i);
         }
-        i += 1;
     }
-    i
+    None
 }
 
-// Whether a word can be written to a wire: the number of the fault, or 0; and then how many words its value takes, 0 for None.
-#[derive(Clone, Copy)]
-struct Room {
-    fault: u32,
-    n: usize,
-}
-
-// The room that the word w finds on the wire o; its words are then on it, all but their count. A value that doesn't fit 64 words
-// leaves the wire empty again: fault 6 leaves every buffer as it was. It takes no registers: those passed on once more go
-// through memory.
-fn room_for(w: u32, o: usize, heap: &[u32], wires: &mut [u32]) -> Room
+// How many words the value w takes on the wire o, 0 for None, or the fault of writing it; its words are then on the wire, all but
+// their count. A value that doesn't fit 64 words leaves the wire empty again: fault 6 leaves every buffer as it was. It takes no
+// registers: those passed on once more go through memory.
+fn room_for(w: u32, o: usize, heap: &[u32], wires: &mut [u32]) -> Result<usize, Ending>
     requires wire_fits { WireFits wires.old o }
     requires offered { Offered heap.now w }
     ensures value { (k : Offered heap.now w) → result ≡ room_of k.words k.word (get_or wires.old (65 * o) 0) }
-    ensures wires_after { (k : Offered heap.now w) → wires.new ≡ pick (eqb result.n 0) wires.old (sets wires.old (65 * o + 1) (spread k.words k.word)) }
+    ensures wires_after { (k : Offered heap.now w) → wires.new ≡ pick (eqb (taken result) 0) wires.old (sets wires.old (65 * o + 1) (spread k.words k.word)) }
 {
     let at = 65 * o;
     if !is_value(w) {
-        return Room { fault: 2, n: 0 };
+        return Err(Ending::Fault(2));
     }
-    if w == 536870912 {
-        return Room { fault: 0, n: 0 };
+    if w == NONE {
+        return Ok(0);
     }
     if wires[at] != 0 {
-        return Room { fault: 5, n: 0 };
+        return Err(Ending::Fault(5));
     }
-    let n = spread(heap, w, wires, at);
-    if 64 < n {
+    let Some(n) = spread(heap, w, wires, at) else {
         clear_wire(wires, at);
-        return Room { fault: 6, n: 0 };
-    }
-    Room { fault: 0, n: n }
+        return Err(Ending::Fault(6));
+    };
+    Ok(n)
 }
 
 impl Regs {
@@ -137,13 +102,11 @@ impl Regs {
         if sp - self.lp < outputs {
             return self.halt(Ending::Fault(1));
         }
-        let other = first_other(stack, sp, outputs);
-        if other < outputs {
+        if !all_values(stack, sp, outputs) {
             return self.halt(Ending::Fault(2));
         }
-        let stuck = first_stuck(stack, sp, wires, inputs, outputs);
-        if stuck < outputs {
-            return self.halt(Ending::Blocked(stuck as u32));
+        if let Some(i) = first_stuck(stack, sp, wires, inputs, outputs) {
+            return self.halt(Ending::Blocked(i as u32));
         }
         let mut next = self;
         next.pc = self.pc + 1;
@@ -209,22 +172,20 @@ impl Regs {
         }
         let w = stack[sp - 1];
         let o = inputs + a;
-        let room = room_for(w, o, heap, wires);
-        if room.fault != 0 {
-            return self.halt(Ending::Fault(room.fault));
-        }
+        let n = match room_for(w, o, heap, wires) {
+            Ok(n) => n,
+            Err(fault) => return self.halt(fault),
+        };
         let mut next = self;
         next.sp = sp - 1;
         next.pc = self.pc + 1;
         let turn = self.charge_time(lim, cost, next);
         if turn.goes_on() {
-            if room.n != 0 {
-                wires[65 * o] = room.n as u32;
+            if n != 0 {
+                wires[65 * o] = n as u32;
             }
-        } else {
-            if room.n != 0 {
-                clear_wire(wires, 65 * o);
-            }
+        } else if n != 0 {
+            clear_wire(wires, 65 * o);
         }
         turn
     }

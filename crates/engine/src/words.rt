@@ -24,6 +24,8 @@ pub(crate) const CONSTR: u32 = 5 << 16;
 
 pub(crate) const EXN: u32 = 6 << 16;
 
+pub(crate) const NONE_CELL: u32 = 7 << 16;
+
 // The heap place that a reference is to.
 pub(crate) fn place_of(w: u32) -> Option<usize>
     ensures { result ≡ place w }

@@ -4,35 +4,10 @@ use lib.ListN.{length, length-set}
 use Rattle.engine.proofs.Copying.{cell_inside, cell_inside_2, cell_none, cell_two, cell_atom, cell_block, cell_placed, block_inside, block_many, block_done, fill_none, fill_top, fill_cell, fill_next}
 use Rattle.engine.proofs.placing.+place_block_place_cell.Goals as goal
 
-pub place_block-overflow_add-n : goal.place_block-overflow_add-n
-place_block-overflow_add-n t c =
-    let b = c.requires in
-    omega (arith, block_inside b, c.well_formed)
-
-pub place_block-offset_bounds-wires-from : goal.place_block-offset_bounds-wires-from
-place_block-offset_bounds-wires-from t c =
-    let b = c.requires in
-    omega (arith, block_inside b, c.well_formed)
-
 pub place_block-bounds-wires-from : goal.place_block-bounds-wires-from
 place_block-bounds-wires-from t c =
     let b = c.requires in
     omega (arith, block_inside b)
-
-pub place_block-overflow_cast-n : goal.place_block-overflow_cast-n
-place_block-overflow_cast-n t c =
-    let b = c.requires in
-    omega (arith, block_many b, b.fits, b.low)
-
-pub place_block-overflow_sub-base : goal.place_block-overflow_sub-base
-place_block-overflow_sub-base t c =
-    let b = c.requires in
-    omega (arith, block_many b, b.fits, b.low)
-
-pub place_block-overflow_add-i : goal.place_block-overflow_add-i
-place_block-overflow_add-i t c =
-    let b = c.requires in
-    omega (arith, block_inside b, c.well_formed)
 
 pub place_block-loop-k-init : goal.place_block-loop-k-init
 place_block-loop-k-init t c = (refl, omega arith, omega arith, λ b. fill_none b _ _)
@@ -45,51 +20,6 @@ place_block-place_cell-cell-requires t c =
     let more = c.loop-k-test.true in
     let cell = fill_cell (inv.3 b) (length c.loop-k.heap) (omega (arith, b.fits)) (omega (arith, b.low)) (omega (arith, b.inside, inv.0)) (omega (arith, more)) in
     (omega (arith, c.decreases, inv.2, cell_inside cell), cell)
-
-pub place_block-overflow_add-heap : goal.place_block-overflow_add-heap
-place_block-overflow_add-heap t c =
-    let b = c.requires in
-    let inv = c.loop-k.invariant in
-    let many = block_many b in
-    let more = c.loop-k-test.true in
-    let same = c.place_cell-cell.auto.heap in
-    omega (arith, b.fits, b.inside, inv.0, same, more, c.well_formed)
-
-pub place_block-offset_bounds-heap-base : goal.place_block-offset_bounds-heap-base
-place_block-offset_bounds-heap-base t c =
-    let b = c.requires in
-    let inv = c.loop-k.invariant in
-    let many = block_many b in
-    let more = c.loop-k-test.true in
-    let same = c.place_cell-cell.auto.heap in
-    omega (arith, b.fits, b.inside, inv.0, same, more, c.well_formed)
-
-pub place_block-bounds-heap-base : goal.place_block-bounds-heap-base
-place_block-bounds-heap-base t c =
-    let b = c.requires in
-    let inv = c.loop-k.invariant in
-    let many = block_many b in
-    let more = c.loop-k-test.true in
-    let same = c.place_cell-cell.auto.heap in
-    omega (arith, b.fits, b.inside, inv.0, same, more, c.well_formed)
-
-pub place_block-overflow_add-k : goal.place_block-overflow_add-k
-place_block-overflow_add-k t c =
-    let b = c.requires in
-    let inv = c.loop-k.invariant in
-    let many = block_many b in
-    let more = c.loop-k-test.true in
-    let same = c.place_cell-cell.auto.heap in
-    omega (arith, b.fits, b.low, more)
-
-pub place_block-loop-k-smaller : goal.place_block-loop-k-smaller
-place_block-loop-k-smaller t c =
-    let b = c.requires in
-    let inv = c.loop-k.invariant in
-    let many = block_many b in
-    let more = c.loop-k-test.true in
-    let same = c.place_cell-cell.auto.heap in
-    omega (arith, more)
 
 pub place_block-loop-k-preserved : goal.place_block-loop-k-preserved
 place_block-loop-k-preserved t c =
@@ -159,12 +89,11 @@ place_block-overflow_cast-result t c =
     let many = block_many b in
     omega (arith, fill_top (inv.3 b), b.fits, b.low)
 
-pub place_block-shape_of-heap : goal.place_block-shape_of-heap
-place_block-shape_of-heap t c =
+pub place_block-overflow_add-result-3 : goal.place_block-overflow_add-result-3
+place_block-overflow_add-result-3 t c =
     let b = c.requires in
-    let inv = c.loop-k.invariant in
     let many = block_many b in
-    c.move_down.auto.heap ∙ c.put_pair.auto.to ∙ inv.0
+    omega (arith, fill_top (c.loop-k.invariant.3 b), b.fits, b.low)
 
 pub place_block-returns : goal.place_block-returns
 place_block-returns t c =
@@ -186,61 +115,29 @@ place_cell-bounds-wires-i t c =
     let k = c.requires in
     cell_inside k
 
-pub place_cell-overflow_add-result : goal.place_cell-overflow_add-result
-place_cell-overflow_add-result t c =
-    let k = c.requires in
-    omega (arith, cell_inside k, c.well_formed)
-
-pub place_cell-returns-then-h-eq458752 : goal.place_cell-returns-then-h-eq458752
-place_cell-returns-then-h-eq458752 t c = λ k. cell_none k c.if-h-eq458752.true _
+pub place_cell-returns-then-h-eq-NONE_CELL : goal.place_cell-returns-then-h-eq-NONE_CELL
+place_cell-returns-then-h-eq-NONE_CELL t c = λ k. cell_none k c.if-h-eq-NONE_CELL.true _
 
 pub place_cell-put_pair-requires : goal.place_cell-put_pair-requires
 place_cell-put_pair-requires t c =
     let k = c.requires in
     record {
-      i_in_bounds = cell_inside_2 k c.if-h-eq458752.false;
-      j_in_bounds = omega (arith, cell_two k c.if-h-lt262144.true, k.inside);
+      i_in_bounds = cell_inside_2 k c.if-h-eq-NONE_CELL.false;
+      j_in_bounds = omega (arith, cell_two k c.if-h-lt-TUPLE.true, k.inside);
     }
 
-pub place_cell-overflow_add-result-then-h-lt262144 : goal.place_cell-overflow_add-result-then-h-lt262144
-place_cell-overflow_add-result-then-h-lt262144 t c =
+pub place_cell-overflow_add-result-then-h-lt-TUPLE : goal.place_cell-overflow_add-result-then-h-lt-TUPLE
+place_cell-overflow_add-result-then-h-lt-TUPLE t c =
     let k = c.requires in
-    omega (arith, cell_inside_2 k c.if-h-eq458752.false, c.well_formed)
+    omega (arith, cell_inside_2 k c.if-h-eq-NONE_CELL.false, c.well_formed)
 
-pub place_cell-overflow_add-result-then-h-lt262144-2 : goal.place_cell-overflow_add-result-then-h-lt262144-2
-place_cell-overflow_add-result-then-h-lt262144-2 t c =
-    let k = c.requires in
-    omega (arith, cell_two k c.if-h-lt262144.true, k.low)
-
-pub place_cell-overflow_cast-result : goal.place_cell-overflow_cast-result
-place_cell-overflow_cast-result t c =
-    let k = c.requires in
-    omega (arith, cell_two k c.if-h-lt262144.true, k.low)
-
-pub place_cell-overflow_add-result-then-h-lt262144-3 : goal.place_cell-overflow_add-result-then-h-lt262144-3
-place_cell-overflow_add-result-then-h-lt262144-3 t c =
-    let k = c.requires in
-    omega (arith, cell_two k c.if-h-lt262144.true, k.low)
-
-pub place_cell-shape_of-heap-then-h-lt262144 : goal.place_cell-shape_of-heap-then-h-lt262144
-place_cell-shape_of-heap-then-h-lt262144 t c = c.put_pair.auto.to
-
-pub place_cell-returns-then-h-lt262144 : goal.place_cell-returns-then-h-lt262144
-place_cell-returns-then-h-lt262144 t c = λ k. rw c.put_pair.ensures (cell_atom k c.if-h-lt262144.true _ refl)
+pub place_cell-returns-then-h-lt-TUPLE : goal.place_cell-returns-then-h-lt-TUPLE
+place_cell-returns-then-h-lt-TUPLE t c = λ k. rw c.put_pair.ensures (cell_atom k c.if-h-lt-TUPLE.true _ refl)
 
 pub place_cell-place_block-requires : goal.place_cell-place_block-requires
 place_cell-place_block-requires t c =
     let k = c.requires in
-    (omega (arith, c.decreases, cell_inside k), cell_block k c.if-h-eq458752.false c.if-h-lt262144.false)
-
-pub place_cell-shape_of-heap : goal.place_cell-shape_of-heap
-place_cell-shape_of-heap t c = c.place_block.auto.heap
+    (omega (arith, c.decreases, cell_inside k), cell_block k c.if-h-eq-NONE_CELL.false c.if-h-lt-TUPLE.false)
 
 pub place_cell-returns : goal.place_cell-returns
-place_cell-returns t c = λ k. cell_placed k c.if-h-eq458752.false c.if-h-lt262144.false c.place_block.ensures
-
-pub place_block-overflow_add-result-3 : goal.place_block-overflow_add-result-3
-place_block-overflow_add-result-3 t c =
-    let b = c.requires in
-    let many = block_many b in
-    omega (arith, fill_top (c.loop-k.invariant.3 b), b.fits, b.low)
+place_cell-returns t c = λ k. cell_placed k c.if-h-eq-NONE_CELL.false c.if-h-lt-TUPLE.false c.place_block.ensures

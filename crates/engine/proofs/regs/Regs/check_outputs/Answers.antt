@@ -1,4 +1,5 @@
-use mathlib.Core.Path.{refl}
+use mathlib.Core.Path.{refl, sym, ◌∙◌}
+use borrow.Author.Tests.{not-true, not-false}
 use Rattle.engine.proofs.Turning.{settled}
 use Rattle.engine.proofs.Outputs.{check_few, check_other, check_stuck, check_leads}
 use Rattle.engine.proofs.regs.Regs.check_outputs.Goals as goal
@@ -7,25 +8,30 @@ pub returns-then-sp-self : goal.returns-then-sp-self
 returns-then-sp-self c =
     λ P he or e₁ e₂. record { each = λ ws hs h m n. check_few c.requires.fit h _ _ P m _ e₂ _ c.if-sp-self.true c.halt.ensures }
 
-pub returns-then-other-outputs : goal.returns-then-other-outputs
-returns-then-other-outputs c =
+pub returns-then-not-all_values : goal.returns-then-not-all_values
+returns-then-not-all_values c =
     λ P he or e₁ e₂. record {
       each = λ ws hs h m n.
-          check_other c.requires.fit h _ _ P m _ e₂ _ _ c.if-sp-self.false c.first_other-other.ensures c.if-other-outputs.true c.halt-then-other-outputs.ensures;
+          check_other c.requires.fit h _ _ P m _ e₂ _ c.if-sp-self.false
+          (sym (c.all_values.ensures ws h.stack m h.sp) ∙ not-true _ c.if-not-all_values.true-raw) c.halt-then-not-all_values.ensures;
     }
 
-pub returns-then-stuck-outputs : goal.returns-then-stuck-outputs
-returns-then-stuck-outputs c =
+pub returns-in-Some : goal.returns-in-Some
+returns-in-Some c =
     λ P he or e₁ e₂. record {
       each = λ ws hs h m n.
-          check_stuck c.requires.fit h _ _ P m _ e₂ _ e₁ _ _ _ c.if-sp-self.false c.first_other-other.ensures c.if-other-outputs.false c.first_stuck-stuck.ensures c.if-stuck-outputs.true c.halt-then-stuck-outputs.ensures;
+          check_stuck c.requires.fit h _ _ P m _ e₂ _ e₁ _ _ c.if-sp-self.false
+          (sym (c.all_values.ensures ws h.stack m h.sp) ∙ not-false _ c.if-not-all_values.false-raw)
+          (rw c.in-Some.is at c.first_stuck.ensures) c.halt-in-Some.ensures;
     }
 
 pub returns : goal.returns
 returns c =
     λ P he or e₁ e₂. record {
       each = λ ws hs h m n.
-          settled (check_leads c.requires.fit h _ _ P m _ e₂ _ e₁ _ _ _ c.if-sp-self.false c.first_other-other.ensures c.if-other-outputs.false c.first_stuck-stuck.ensures c.if-stuck-outputs.false) _ c.charge_time.ensures
+          settled (check_leads c.requires.fit h _ _ P m _ e₂ _ e₁ _ c.if-sp-self.false
+          (sym (c.all_values.ensures ws h.stack m h.sp) ∙ not-false _ c.if-not-all_values.false-raw)
+          (rw c.in_default.is at c.first_stuck.ensures)) _ c.charge_time.ensures
           (λ a b. record {
             stack = h.stack;
             heap = h.heap;

@@ -1,5 +1,5 @@
 use mathlib.Core.Path.{refl, sym, ◌∙◌}
-use Prim.Native.Nat.{◌+◌, ◌*◌, ◌≤◌}
+use Prim.Native.Nat.{◌+◌, ◌≤◌}
 use native.Mathlib.Omega.{arith}
 use lib.ListN.{length}
 use Rattle.laws.specs.Sizes.{size}
@@ -7,19 +7,9 @@ use Rattle.engine.proofs.Turning.{settle_yes, settle_no, went_on}
 use Rattle.engine.proofs.Copying.{input_at, input_size, input_few, input_here, input_placed, copy_empty, copy_leads, copy_heap, copy_stack}
 use Rattle.engine.proofs.regs.Regs.copy_input.Goals as goal
 
-pub overflow_mul-at : goal.overflow_mul-at
-overflow_mul-at c = let f = c.requires.wire_fits in omega (arith, f.long, f.inside, c.well_formed)
-
-pub overflow_cast-k : goal.overflow_cast-k
-overflow_cast-k c = omega (arith, c.shared_slice_known-2-1.given (65 * c.args.a))
-
 pub returns-then-k-eq0 : goal.returns-then-k-eq0
 returns-then-k-eq0 c =
     λ or. record { each = λ ws hs h m n. copy_empty c.requires.fit h _ or _ _ c.if-k-eq0.true c.halt.ensures }
-
-pub overflow_add-at : goal.overflow_add-at
-overflow_add-at c =
-    let u = input_at c.requires.wire_fits c.if-k-eq0.false in omega (arith, u.inside, c.well_formed)
 
 pub count_words-grown-requires : goal.count_words-grown-requires
 count_words-grown-requires c =
@@ -35,24 +25,12 @@ overflow_add-next-2 c =
     let few = input_few u in
     omega (arith, c.requires.fit.hp, c.requires.fit.heap_cap)
 
-pub overflow_add-at-then-goes_on : goal.overflow_add-at-then-goes_on
-overflow_add-at-then-goes_on c =
-    let u = input_at c.requires.wire_fits c.if-k-eq0.false in omega (arith, u.inside, c.well_formed)
-
-pub overflow_add-hp : goal.overflow_add-hp
-overflow_add-hp c =
-    let pd = went_on c.charge-turn.ensures (sym c.goes_on.ensures ∙ c.if-goes_on.true) in omega (arith, pd.heap, c.requires.fit.heap_cap)
-
 pub place-requires : goal.place-requires
 place-requires c =
     let u = input_at c.requires.wire_fits c.if-k-eq0.false in
     let e = input_size u _ c.count_words-grown.ensures in
     let pd = went_on c.charge-turn.ensures (sym c.goes_on.ensures ∙ c.if-goes_on.true) in
     input_here u _ _ _ (omega (arith, e)) (omega (arith, pd.heap, c.requires.fit.heap_cap)) (omega (arith, pd.heap, c.requires.heap_in_bounds))
-
-pub bounds-stack-sp : goal.bounds-stack-sp
-bounds-stack-sp c =
-    let pd = went_on c.charge-turn.ensures (sym c.goes_on.ensures ∙ c.if-goes_on.true) in omega (arith, pd.depth, c.requires.stack_in_bounds)
 
 pub returns-then-goes_on : goal.returns-then-goes_on
 returns-then-goes_on c =
