@@ -139,10 +139,6 @@ eleven m t = leb→le 11 (length m) (and_left (leb 11 (length m)) _ t)
 -- ---- what is found once of an accepted image
 
 module _ {m : List ℕ} (i : Imaged m) where
-  pub image_byte : (k : ℕ) → get_or m k 0 < 256
-  unfolding byte
-  image_byte k = i.bytes.each k
-
   pub rulesets_most : get_or m 7 0 ≤ 32
   unfolding byte program
   rulesets_most = i.accepted.rulesets
