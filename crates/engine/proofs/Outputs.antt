@@ -4,11 +4,10 @@ use mathlib.Core.Bool.{true, false, not}
 use mathlib.Core.List.{List, [], append-nil}
 use Prim.Native.Nat.{ℕ, zero, suc, ◌+◌, ◌-◌, ◌*◌, ◌^◌, ◌≤◌, ◌<◌}
 use native.Mathlib.Omega.{arith}
-use native.Mathlib.Numerals.{add-one}
 use native.Mathlib.Decide.{ℕ_discrete}
 use lib.Dec.{T, leb, eqb, leb→le, le→leb, eqb→eq, T_not, not_T}
-use lib.ListN.{length, get_or, set, replicate, length-replicate, get_or-replicate}
-use lib.Seq.{paste, paste-suc}
+use lib.ListN.{length, get_or, replicate}
+use lib.Seq.{paste}
 use Rattle.std.specs.Prelude.{Some, None}
 use Rattle.limits.specs.Machine.{ends, goes}
 use Rattle.hume.specs.Tests.{pick, all}
@@ -34,14 +33,6 @@ use Rattle.engine.proofs.Moving.{stacked}
 use Rattle.engine.proofs.WordKinds.{not_so}
 
 -- ---- a wire that is emptied
-
--- one zero more
-pub clear_more : (w : List ℕ) (at i : ℕ) → i < 65 → at + 65 ≤ length w
-    → set (paste w at (replicate 65 0) i) (at + i) 0 ≡ paste w at (replicate 65 0) (i + 1)
-clear_more w at i h k =
-    let l : i < length (replicate {A = ℕ} 65 0) = rw (length-replicate {A = ℕ} 65 0) h in
-    ap (λ (v : ℕ). set (paste w at (replicate 65 0) i) (at + i) v) (sym (get_or-replicate 65 i 0 0 h))
-    ∙ rw add-one (paste-suc w at (replicate 65 0) i 0 (omega arith) l)
 
 -- 65 zeros are a wire with no words
 pub cleared : (w : List ℕ) (a : ℕ) → paste w (65 * a) (replicate 65 0) 65 ≡ set_wire w a []

@@ -1,6 +1,6 @@
 -- What the primitives yield, and what applying one, or raising, leads to.
 use mathlib.Core.Path.{◌≡◌, refl, sym, ap, ◌∙◌, subst}
-use mathlib.Core.Bool.{Bool, true, false, ◌&&◌, ◌||◌, true≢false}
+use mathlib.Core.Bool.{Bool, true, false, ◌&&◌, true≢false}
 use mathlib.Core.List.{List, [], ◌∷◌, ◌++◌, append_assoc}
 use mathlib.Core.Option.{Option, none, some}
 use Rattle.std.specs.Prelude.{Some, Ok, Err}
@@ -19,7 +19,7 @@ use Rattle.hume.specs.Image.{Program}
 use Rattle.hume.specs.State.{State, Deed, fault, unhandled, leaving, values, locals, without, need, builds, below, raise}
 use Rattle.hume.specs.Instructions.{yielded as resulted, operand, operand_ok, CallPrim1, CallPrim2, Raise}
 use Rattle.hume.specs.Numbers.{to_int}
-use Rattle.hume.specs.Primitives.{Yield, value, raises, Primitive, truth, divided, converted, is_true, one_operand, two_operands, primitives, no_primitive, prim1, prim2}
+use Rattle.hume.specs.Primitives.{Yield, value, raises, Primitive, divided, converted, one_operand, two_operands, primitives, no_primitive, prim1, prim2}
 use Rattle.laws.specs.Sizes.{Small}
 use Rattle.laws.proofs.Deeds.{need_yes, need_no}
 use Rattle.laws.proofs.Small.{raw_bits}
@@ -157,23 +157,6 @@ alike p h g x y e d =
     d
     ∙ ap (λ (b : Bool). tried p b x y)
     (and_same (eqb h p.takes) ∙ ap (λ (n : ℕ). eqb h p.takes && eqb n p.takes) e)
-
--- a Bool operation on 0 and 1
-pub and_yes : (x y : ℕ) → x ≡ 1 → truth (eqb y 1) ≡ truth (is_true x && is_true y)
-unfolding is_true
-and_yes x y e = rw (eq-eqb x 1 e)
-
-pub and_no : (x y : ℕ) → (x ≡ 1 → ⊥) → 0 ≡ truth (is_true x && is_true y)
-unfolding is_true
-and_no x y e = rw (ne_eqb x 1 e)
-
-pub or_yes : (x y : ℕ) → x ≡ 1 → 1 ≡ truth (is_true x || is_true y)
-unfolding is_true
-or_yes x y e = rw (eq-eqb x 1 e)
-
-pub or_no : (x y : ℕ) → (x ≡ 1 → ⊥) → truth (eqb y 1) ≡ truth (is_true x || is_true y)
-unfolding is_true
-or_no x y e = rw (ne_eqb x 1 e)
 
 -- ---- the exceptions of the primitives have small numbers
 

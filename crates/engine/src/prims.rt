@@ -64,20 +64,22 @@ const NO_INT: Trouble = Trouble::Raises {
 fn truth(b: bool) -> u32
     ensures { result ≡ truth_of b }
 {
-    if b { 1 } else { 0 }
+    u32::from(b)
 }
 
 // The Bool operations on 0 and 1.
+#[tactic(auto, unfolding(hume::specs::Primitives::is_true))]
 fn both(x: u32, y: u32) -> u32
     ensures { result ≡ truth_of (is_true x && is_true y) }
 {
-    if x == 1 { truth(y == 1) } else { 0 }
+    truth(x == 1 && y == 1)
 }
 
+#[tactic(auto, unfolding(hume::specs::Primitives::is_true))]
 fn either(x: u32, y: u32) -> u32
     ensures { result ≡ truth_of (is_true x || is_true y) }
 {
-    if x == 1 { 1 } else { truth(y == 1) }
+    truth(x == 1 || y == 1)
 }
 
 // A value v of the header g, where the operands' header h is k.

@@ -19,8 +19,7 @@ pub(crate) fn spread(heap: &[u32], w: u32, wires: &mut [u32], at: usize) -> Opti
         put_pair(heap, p, wires, at + 1);
         return Some(2);
     }
-    let end = spread_block(&*heap, w, wires, at + 1, at + 65)?;
-    Some(end - (at + 1))
+    spread_block(&*heap, w, wires, at + 1, at + 65).map(|end| end - (at + 1))
 }
 
 // The copier of a list of fields, with the two words of their object before them; it and that of a cell call each other, and the

@@ -1,3 +1,4 @@
+use Rattle.std.proofs.Common.{rules}
 use native.Mathlib.Omega.{arith}
 use Rattle.engine.proofs.Reading.{reads_ref, reads_inside, atom_spread, spread_least}
 use Rattle.engine.proofs.spreading.spread.Goals as goal
@@ -15,5 +16,5 @@ pub returns-then-heap-p-lt-TUPLE : goal.returns-then-heap-p-lt-TUPLE
 returns-then-heap-p-lt-TUPLE c =
     λ k. atom_spread k c.args.wires.now c.requires.not_none c.if-heap-p-lt-TUPLE.true (omega arith) c.put_pair.ensures
 
-pub overflow_sub-result : goal.overflow_sub-result
-overflow_sub-result c = spread_least (c.spread_block.ensures c.requires.readable) c.in_ok-end.was
+pub map-requires : goal.map-requires
+map-requires c = λ x e. let least = spread_least (c.spread_block.ensures c.requires.readable) e in search rules

@@ -1,9 +1,0 @@
-use mathlib.Core.Path.{◌∙◌}
-use Rattle.engine.proofs.Yielding.{or_yes, or_no}
-use Rattle.engine.proofs.prims.either.Goals as goal
-
-pub returns-then-x-eq1 : goal.returns-then-x-eq1
-returns-then-x-eq1 c = or_yes _ _ c.if-x-eq1.true
-
-pub returns-else-x-eq1 : goal.returns-else-x-eq1
-returns-else-x-eq1 c = c.truth.ensures ∙ or_no _ _ c.if-x-eq1.false
