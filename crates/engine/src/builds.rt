@@ -60,7 +60,7 @@ impl Regs {
         next.sp = low + 1;
         next.hp = hp + 2 + a;
         next.pc = self.pc + 1;
-        let turn = self.charge(lim, cost, next);
+        let turn = self.charge::<true, true>(lim, cost, next);
         if turn.goes_on() {
             heap[hp] = h;
             heap[hp + 1] = a as u32;
@@ -97,7 +97,7 @@ impl Regs {
         let mut next = self;
         next.sp = low + n;
         next.pc = self.pc + 1;
-        let turn = self.charge_depth(lim, cost, next);
+        let turn = self.charge::<true, false>(lim, cost, next);
         if turn.goes_on() {
             put_words(heap, at + 2, stack, low, n);
         }

@@ -50,7 +50,7 @@ impl Regs {
     {
         let mut next = self;
         next.pc = b;
-        self.charge_time(lim, cost, next)
+        self.charge::<false, false>(lim, cost, next)
     }
 
     // "40 Schedule: finished"; "Schedule is charged and pc stays on it."
@@ -58,7 +58,7 @@ impl Regs {
         requires { Fit lim self }
         ensures { (st he wi or : List ℕ) → Meets lim self (buffers st he wi or) (priced cost Schedule) result (buffers st he wi or) }
     {
-        let turn = self.charge_time(lim, cost, self);
+        let turn = self.charge::<false, false>(lim, cost, self);
         let ending = turn.ending.unwrap_or(Ending::Finished);
         Turn {
             regs: turn.regs,
@@ -100,7 +100,7 @@ impl Regs {
         let mut next = self;
         next.sp = sp - 1;
         next.pc = to;
-        self.charge_time(lim, cost, next)
+        self.charge::<false, false>(lim, cost, next)
     }
 
     // "17 Call a [+3]: return address, ruleset word, static link of slp; slp becomes the new sp + 1, rp 0, pc the entry", which is `to`
@@ -123,7 +123,7 @@ impl Regs {
         next.slp = sp + 4;
         next.rp = 0;
         next.rs = a;
-        let turn = self.charge_depth(lim, cost, next);
+        let turn = self.charge::<true, false>(lim, cost, next);
         if turn.goes_on() {
             stack[sp] = (805306368 + (self.pc + 1)) as u32;
             stack[sp + 1] = (1073741824 + (self.rs * 256 + self.rp)) as u32;
@@ -158,7 +158,7 @@ impl Regs {
         next.fp = back;
         next.lp = locals_end(stack, back);
         next.sp = fp - 3;
-        let turn = self.charge_time(lim, cost, next);
+        let turn = self.charge::<false, false>(lim, cost, next);
         if turn.goes_on() {
             stack[fp - 4] = top;
         }

@@ -67,7 +67,7 @@ impl Regs {
     {
         let mut next = self;
         next.pc = code.rule_at(order, self.rs, 0);
-        self.charge_time(lim, cost, next)
+        self.charge::<false, false>(lim, cost, next)
     }
 
     // "23 MatchRule: rp + 1, mp and inp 0, values dropped"; "7 MatchRule with rp at the count"
@@ -86,7 +86,7 @@ impl Regs {
         next.rp = self.rp + 1;
         next.mp = 0;
         next.inp = 0;
-        self.charge_time(lim, cost, next)
+        self.charge::<false, false>(lim, cost, next)
     }
 
     // "24 MatchedRule: values dropped"
@@ -97,7 +97,7 @@ impl Regs {
         let mut next = self;
         next.sp = self.lp;
         next.pc = self.pc + 1;
-        self.charge_time(lim, cost, next)
+        self.charge::<false, false>(lim, cost, next)
     }
 
     // "25 MatchNone: mp + 1, inp + 1"
@@ -109,7 +109,7 @@ impl Regs {
         next.pc = self.pc + 1;
         next.mp = self.mp + 1;
         next.inp = self.inp + 1;
-        self.charge_time(lim, cost, next)
+        self.charge::<false, false>(lim, cost, next)
     }
 
     // "26 MatchAvailable: inp + 1, fails if that input is empty"; "input (inp at least their number)"
@@ -171,14 +171,14 @@ impl Regs {
         next.inp = attempt.inp;
         if attempt.hit {
             next.pc = self.pc + 1;
-            return self.charge_time(lim, cost, next);
+            return self.charge::<false, false>(lim, cost, next);
         }
         let count = code.count_of(self.rs);
         if count <= self.rp {
             return self.halt(Ending::NoRule);
         }
         next.pc = code.rule_at(order, self.rs, self.rp);
-        self.charge_time(lim, cost, next)
+        self.charge::<false, false>(lim, cost, next)
     }
 
     // "26 MatchAvailable"
@@ -236,7 +236,7 @@ impl Regs {
         let rs = self.rs;
         let mut next = self;
         next.pc = self.pc + 1;
-        let turn = self.charge_time(lim, cost, next);
+        let turn = self.charge::<false, false>(lim, cost, next);
         if turn.goes_on() {
             let count = code.count_of(rs);
             if self.rp < count {

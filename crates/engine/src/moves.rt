@@ -37,7 +37,7 @@ impl Regs {
         let mut next = self;
         next.sp = sp + 1;
         next.pc = self.pc + 1;
-        let turn = self.charge_depth(lim, cost, next);
+        let turn = self.charge::<true, false>(lim, cost, next);
         if turn.goes_on() {
             stack[sp] = w;
         }
@@ -55,7 +55,7 @@ impl Regs {
         let mut next = self;
         next.sp = self.sp - a;
         next.pc = self.pc + 1;
-        self.charge_time(lim, cost, next)
+        self.charge::<false, false>(lim, cost, next)
     }
 
     // "10 Copy a: the word a below the top [+1]"
@@ -94,7 +94,7 @@ impl Regs {
         let mut next = self;
         next.sp = sp - a;
         next.pc = self.pc + 1;
-        let turn = self.charge_time(lim, cost, next);
+        let turn = self.charge::<false, false>(lim, cost, next);
         if turn.goes_on() {
             stack[sp - (a + 1)] = top;
         }
@@ -130,7 +130,7 @@ impl Regs {
         let mut next = self;
         next.sp = sp + a;
         next.pc = self.pc + 1;
-        let turn = self.charge_depth(lim, cost, next);
+        let turn = self.charge::<true, false>(lim, cost, next);
         if turn.goes_on() {
             blank(stack, sp, a);
         }
@@ -154,7 +154,7 @@ impl Regs {
         next.fp = fp;
         next.lp = fp + a;
         next.pc = self.pc + 1;
-        let turn = self.charge_depth(lim, cost, next);
+        let turn = self.charge::<true, false>(lim, cost, next);
         if turn.goes_on() {
             stack[sp] = (1610612736 + (self.fp * 256 + a)) as u32;
             blank(stack, fp, a);
@@ -194,7 +194,7 @@ impl Regs {
         let mut next = self;
         next.sp = sp - 1;
         next.pc = self.pc + 1;
-        let turn = self.charge_time(lim, cost, next);
+        let turn = self.charge::<false, false>(lim, cost, next);
         if turn.goes_on() {
             stack[fp + a] = top;
         }

@@ -302,7 +302,7 @@ impl Regs {
         next.sp = low + 1;
         next.hp = hp + 2;
         next.pc = self.pc + 1;
-        let turn = self.charge(lim, cost, next);
+        let turn = self.charge::<true, true>(lim, cost, next);
         if turn.goes_on() {
             heap[hp] = h;
             heap[hp + 1] = x;
@@ -342,7 +342,7 @@ impl Regs {
         next.slp = 0;
         next.rp = 0;
         next.rs = handler.ruleset;
-        let turn = self.charge(lim, cost, next);
+        let turn = self.charge::<true, true>(lim, cost, next);
         if turn.goes_on() {
             heap[hp] = EXN + e;
             heap[hp + 1] = 1;

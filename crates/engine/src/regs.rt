@@ -1,5 +1,5 @@
 // The registers by value, what a turn of the machine gives back, and what an instruction costs.
-ghost use Rattle.std.specs.Prelude.{◌≡◌, ◌≤◌, ◌<◌, max};
+ghost use Rattle.std.specs.Prelude.{◌≡◌, ◌≤◌, ◌<◌, max, false};
 ghost use Rattle.engine.specs.Turns.{Charging, goes_on, halt};
 
 use super::Ending;
@@ -54,69 +54,35 @@ impl Regs {
         }
     }
 
-    // "then time, then depth after it, then heap after it": the next registers, charged, or the limit that is broken.
-    pub(crate) fn charge(self, lim: Limits, cost: usize, next: Regs) -> Turn
-        requires { self.steps < 4294967296 }
+    // "then time, then depth after it, then heap after it": the next registers, charged, or the limit that is broken. What the
+    // instruction cannot make deeper, or fuller, is not tested.
+    pub(crate) fn charge<const DEEPER: bool, const FULLER: bool>(
+        self,
+        lim: Limits,
+        cost: usize,
+        next: Regs,
+    ) -> Turn
+        requires steps { self.steps < 4294967296 }
+        requires no_deeper { DEEPER ≡ false → (next.sp ≤ lim.stack) × (next.sp ≤ self.peak) }
+        requires no_fuller { FULLER ≡ false → next.hp ≤ lim.heap }
         ensures { Charging lim self cost next result }
     {
         if self.left < cost {
             return self.halt(Ending::Time);
         }
-        if lim.stack < next.sp {
+        if DEEPER && lim.stack < next.sp {
             return self.halt(Ending::Stack);
         }
-        if lim.heap < next.hp {
+        if FULLER && lim.heap < next.hp {
             return self.halt(Ending::Heap);
         }
         let mut paid = next;
         paid.steps = self.steps + 1;
         paid.left = self.left - cost;
         paid.peak = self.peak;
-        if self.peak < next.sp {
+        if DEEPER && self.peak < next.sp {
             paid.peak = next.sp;
         }
-        Turn {
-            regs: paid,
-            ending: None,
-        }
-    }
-
-    // The same where the heap stays as it is.
-    pub(crate) fn charge_depth(self, lim: Limits, cost: usize, next: Regs) -> Turn
-        requires { (self.steps < 4294967296) × (next.hp ≤ lim.heap) }
-        ensures { Charging lim self cost next result }
-    {
-        if self.left < cost {
-            return self.halt(Ending::Time);
-        }
-        if lim.stack < next.sp {
-            return self.halt(Ending::Stack);
-        }
-        let mut paid = next;
-        paid.steps = self.steps + 1;
-        paid.left = self.left - cost;
-        paid.peak = self.peak;
-        if self.peak < next.sp {
-            paid.peak = next.sp;
-        }
-        Turn {
-            regs: paid,
-            ending: None,
-        }
-    }
-
-    // The same where neither the depth nor the heap grows.
-    pub(crate) fn charge_time(self, lim: Limits, cost: usize, next: Regs) -> Turn
-        requires { (self.steps < 4294967296) × (next.hp ≤ lim.heap) × (next.sp ≤ lim.stack) × (next.sp ≤ self.peak) }
-        ensures { Charging lim self cost next result }
-    {
-        if self.left < cost {
-            return self.halt(Ending::Time);
-        }
-        let mut paid = next;
-        paid.steps = self.steps + 1;
-        paid.left = self.left - cost;
-        paid.peak = self.peak;
         Turn {
             regs: paid,
             ending: None,

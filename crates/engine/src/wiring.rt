@@ -110,7 +110,7 @@ impl Regs {
     {
         let mut next = self;
         next.pc = self.pc + 1;
-        let turn = self.charge_time(lim, cost, next);
+        let turn = self.charge::<false, false>(lim, cost, next);
         if turn.goes_on() {
             clear_wire(wires, 65 * a);
         }
@@ -147,7 +147,7 @@ impl Regs {
         }
         let mut next = self;
         next.pc = self.pc + 1;
-        self.charge_time(lim, cost, next)
+        self.charge::<false, false>(lim, cost, next)
     }
 
     // "35 CopyInput a [+1]": "CopyInput costs the words it places"
@@ -178,7 +178,7 @@ impl Regs {
         next.sp = sp + 1;
         next.hp = hp + grown;
         next.pc = self.pc + 1;
-        let turn = self.charge(lim, cost, next);
+        let turn = self.charge::<true, true>(lim, cost, next);
         if turn.goes_on() {
             stack[sp] = place(wires, at + 1, heap, hp, hp + grown);
         }
@@ -216,7 +216,7 @@ impl Regs {
         let mut next = self;
         next.sp = sp - 1;
         next.pc = self.pc + 1;
-        let turn = self.charge_time(lim, cost, next);
+        let turn = self.charge::<false, false>(lim, cost, next);
         if turn.goes_on() {
             if room.n != 0 {
                 wires[65 * o] = room.n as u32;

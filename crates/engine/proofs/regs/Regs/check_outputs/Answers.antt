@@ -25,7 +25,7 @@ pub returns : goal.returns
 returns c =
     λ P he or e₁ e₂. record {
       each = λ ws hs h m n.
-          settled (check_leads c.requires.fit h _ _ P m _ e₂ _ e₁ _ _ _ c.if-sp-self.false c.first_other-other.ensures c.if-other-outputs.false c.first_stuck-stuck.ensures c.if-stuck-outputs.false) _ c.charge_time.ensures
+          settled (check_leads c.requires.fit h _ _ P m _ e₂ _ e₁ _ _ _ c.if-sp-self.false c.first_other-other.ensures c.if-other-outputs.false c.first_stuck-stuck.ensures c.if-stuck-outputs.false) _ c.charge.ensures
           (λ a b. record {
             stack = h.stack;
             heap = h.heap;

@@ -4,7 +4,7 @@ use Rattle.engine.proofs.regs.Regs.conclude.Goals as goal
 
 pub returns-then-attempt : goal.returns-then-attempt
 returns-then-attempt c =
-    λ st he wi. record { each = λ ws hs h m n. settled (hit_leads h wi _ _ _ _ c.if-attempt.true) _ c.charge_time.ensures (λ a b. stays h wi _) }
+    λ st he wi. record { each = λ ws hs h m n. settled (hit_leads h wi _ _ _ _ c.if-attempt.true) _ c.charge.ensures (λ a b. stays h wi _) }
 
 pub returns-then-count-self : goal.returns-then-count-self
 returns-then-count-self c =
@@ -12,4 +12,4 @@ returns-then-count-self c =
 
 pub returns : goal.returns
 returns c =
-    λ st he wi. record { each = λ ws hs h m n. settled (miss_leads h wi _ _ _ _ _ c.if-attempt.false (rw c.count_of-count.ensures.0 at c.if-count-self.false) c.rule_at.ensures.0) _ c.charge_time-2.ensures (λ a b. stays h wi _) }
+    λ st he wi. record { each = λ ws hs h m n. settled (miss_leads h wi _ _ _ _ _ c.if-attempt.false (rw c.count_of-count.ensures.0 at c.if-count-self.false) c.rule_at.ensures.0) _ c.charge-2.ensures (λ a b. stays h wi _) }

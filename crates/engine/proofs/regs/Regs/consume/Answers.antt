@@ -7,7 +7,7 @@ pub returns-then-goes_on : goal.returns-then-goes_on
 returns-then-goes_on c =
     λ st he or. record {
       each = λ ws hs h m n.
-          settle_yes (consume_leads c.requires.fit h _ or _ _) _ _ c.charge_time-turn.ensures (sym c.goes_on.ensures ∙ c.if-goes_on.true)
+          settle_yes (consume_leads c.requires.fit h _ or _ _) _ _ c.charge-turn.ensures (sym c.goes_on.ensures ∙ c.if-goes_on.true)
           (λ a b. record {
             stack = h.stack;
             heap = h.heap;
@@ -20,5 +20,5 @@ pub returns-else-goes_on : goal.returns-else-goes_on
 returns-else-goes_on c =
     λ st he or. record {
       each = λ ws hs h m n.
-          settle_no (consume_leads c.requires.fit h _ or _ c.args.a) _ c.charge_time-turn.ensures (sym c.goes_on.ensures ∙ c.if-goes_on.false);
+          settle_no (consume_leads c.requires.fit h _ or _ c.args.a) _ c.charge-turn.ensures (sym c.goes_on.ensures ∙ c.if-goes_on.false);
     }

@@ -43,8 +43,8 @@ overflow_sub-stack c =
 
 pub returns-then-goes_on : goal.returns-then-goes_on
 returns-then-goes_on c =
-    let d = framed_deep _ _ (sym c.has_frame.ensures ∙ not-false _ c.if-not-has_frame.false-raw) in λ he wi or. record { each = λ ws hs h m n. settle_yes (return_leads c.requires.fit h wi or m _ _ c.if-sp-self-lt1.false c.requires.framed (sym c.has_frame.ensures ∙ not-false _ c.if-not-has_frame.false-raw) (c.locals_end.ensures ws h.stack (omega (arith, d, c.requires.framed.back (omega arith), h.sp, c.requires.fit.fp, c.requires.fit.lp)))) _ _ c.charge_time-turn.ensures (sym c.goes_on.ensures ∙ c.if-goes_on.true) (λ a b. record { stack = return_bears c.requires.fit h wi or m _ d (omega (arith, c.requires.fit.sp, c.requires.stack_in_bounds)) (reads_below h 0 _ (omega (arith, c.if-sp-self-lt1.false)) refl); heap = h.heap; wires = refl; order = refl }) }
+    let d = framed_deep _ _ (sym c.has_frame.ensures ∙ not-false _ c.if-not-has_frame.false-raw) in λ he wi or. record { each = λ ws hs h m n. settle_yes (return_leads c.requires.fit h wi or m _ _ c.if-sp-self-lt1.false c.requires.framed (sym c.has_frame.ensures ∙ not-false _ c.if-not-has_frame.false-raw) (c.locals_end.ensures ws h.stack (omega (arith, d, c.requires.framed.back (omega arith), h.sp, c.requires.fit.fp, c.requires.fit.lp)))) _ _ c.charge-turn.ensures (sym c.goes_on.ensures ∙ c.if-goes_on.true) (λ a b. record { stack = return_bears c.requires.fit h wi or m _ d (omega (arith, c.requires.fit.sp, c.requires.stack_in_bounds)) (reads_below h 0 _ (omega (arith, c.if-sp-self-lt1.false)) refl); heap = h.heap; wires = refl; order = refl }) }
 
 pub returns-else-goes_on : goal.returns-else-goes_on
 returns-else-goes_on c =
-    let d = framed_deep _ _ (sym c.has_frame.ensures ∙ not-false _ c.if-not-has_frame.false-raw) in λ he wi or. record { each = λ ws hs h m n. settle_no (return_leads c.requires.fit h wi or m _ _ c.if-sp-self-lt1.false c.requires.framed (sym c.has_frame.ensures ∙ not-false _ c.if-not-has_frame.false-raw) (c.locals_end.ensures ws h.stack (omega (arith, d, c.requires.framed.back (omega arith), h.sp, c.requires.fit.fp, c.requires.fit.lp)))) _ c.charge_time-turn.ensures (sym c.goes_on.ensures ∙ c.if-goes_on.false) }
+    let d = framed_deep _ _ (sym c.has_frame.ensures ∙ not-false _ c.if-not-has_frame.false-raw) in λ he wi or. record { each = λ ws hs h m n. settle_no (return_leads c.requires.fit h wi or m _ _ c.if-sp-self-lt1.false c.requires.framed (sym c.has_frame.ensures ∙ not-false _ c.if-not-has_frame.false-raw) (c.locals_end.ensures ws h.stack (omega (arith, d, c.requires.framed.back (omega arith), h.sp, c.requires.fit.fp, c.requires.fit.lp)))) _ c.charge-turn.ensures (sym c.goes_on.ensures ∙ c.if-goes_on.false) }

@@ -5,4 +5,4 @@ use Rattle.engine.proofs.regs.Regs.goto.Goals as goal
 
 pub returns : goal.returns
 returns c =
-    λ st he wi or. record { each = λ ws hs h m n. settled (goto_leads c.requires h wi or _ _) _ c.charge_time.ensures (λ a b. record { stack = h.stack; heap = h.heap; wires = refl; order = refl }) }
+    λ st he wi or. record { each = λ ws hs h m n. settled (goto_leads c.requires h wi or _ _) _ c.charge.ensures (λ a b. record { stack = h.stack; heap = h.heap; wires = refl; order = refl }) }

@@ -31,7 +31,7 @@ pub returns : goal.returns
 returns c =
     λ wi or. record {
       each = λ ws hs h m n. elim c.if-heap-p-eq1.branch [
-        | then-heap-p-eq1 w ↦ settled (if_jumps c.requires.fit h wi or m c.if-sp-self-lt1.false _ refl c.requires.refs c.if-w-ne1.false _ _ _ c.if-heap-p-ne65536.false w.if-heap-p-eq1.true w.to-is) _ c.charge_time.ensures (λ a b. record { stack = bears_without _ _ _ h.stack; heap = h.heap; wires = refl; order = refl })
-        | else-heap-p-eq1 w ↦ settled (if_stays c.requires.fit h wi or m c.if-sp-self-lt1.false _ refl c.requires.refs c.if-w-ne1.false _ _ _ c.if-heap-p-ne65536.false w.if-heap-p-eq1.false w.to-is) _ c.charge_time.ensures (λ a b. record { stack = bears_without _ _ _ h.stack; heap = h.heap; wires = refl; order = refl })
+        | then-heap-p-eq1 w ↦ settled (if_jumps c.requires.fit h wi or m c.if-sp-self-lt1.false _ refl c.requires.refs c.if-w-ne1.false _ _ _ c.if-heap-p-ne65536.false w.if-heap-p-eq1.true w.to-is) _ c.charge.ensures (λ a b. record { stack = bears_without _ _ _ h.stack; heap = h.heap; wires = refl; order = refl })
+        | else-heap-p-eq1 w ↦ settled (if_stays c.requires.fit h wi or m c.if-sp-self-lt1.false _ refl c.requires.refs c.if-w-ne1.false _ _ _ c.if-heap-p-ne65536.false w.if-heap-p-eq1.false w.to-is) _ c.charge.ensures (λ a b. record { stack = bears_without _ _ _ h.stack; heap = h.heap; wires = refl; order = refl })
       ];
     }

@@ -14,8 +14,8 @@ returns-then-self-fp c =
 
 pub returns-then-goes_on : goal.returns-then-goes_on
 returns-then-goes_on c =
-    λ he wi or. record { each = λ ws hs h m n. settle_yes (make_var_leads c.requires.fit h wi or _ _ c.if-sp-self-lt1.false c.if-self-fp.false) _ _ c.charge_time-turn.ensures (sym c.goes_on.ensures ∙ c.if-goes_on.true) (λ a b. record { stack = make_var_bears c.requires.fit h wi or _ _ c.if-sp-self-lt1.false c.if-self-fp.false (reads_below h 0 _ (omega (arith, c.if-sp-self-lt1.false)) refl); heap = h.heap; wires = refl; order = refl }) }
+    λ he wi or. record { each = λ ws hs h m n. settle_yes (make_var_leads c.requires.fit h wi or _ _ c.if-sp-self-lt1.false c.if-self-fp.false) _ _ c.charge-turn.ensures (sym c.goes_on.ensures ∙ c.if-goes_on.true) (λ a b. record { stack = make_var_bears c.requires.fit h wi or _ _ c.if-sp-self-lt1.false c.if-self-fp.false (reads_below h 0 _ (omega (arith, c.if-sp-self-lt1.false)) refl); heap = h.heap; wires = refl; order = refl }) }
 
 pub returns-else-goes_on : goal.returns-else-goes_on
 returns-else-goes_on c =
-    λ he wi or. record { each = λ ws hs h m n. settle_no (make_var_leads c.requires.fit h wi or _ _ c.if-sp-self-lt1.false c.if-self-fp.false) _ c.charge_time-turn.ensures (sym c.goes_on.ensures ∙ c.if-goes_on.false) }
+    λ he wi or. record { each = λ ws hs h m n. settle_no (make_var_leads c.requires.fit h wi or _ _ c.if-sp-self-lt1.false c.if-self-fp.false) _ c.charge-turn.ensures (sym c.goes_on.ensures ∙ c.if-goes_on.false) }

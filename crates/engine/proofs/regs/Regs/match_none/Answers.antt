@@ -4,4 +4,4 @@ use Rattle.engine.proofs.regs.Regs.match_none.Goals as goal
 
 pub returns : goal.returns
 returns c =
-    λ st he wi or. record { each = λ ws hs h m n. settled (none_leads h wi or _) _ c.charge_time.ensures (λ a b. stays h wi or) }
+    λ st he wi or. record { each = λ ws hs h m n. settled (none_leads h wi or _) _ c.charge.ensures (λ a b. stays h wi or) }

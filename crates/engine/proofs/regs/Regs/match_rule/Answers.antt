@@ -8,4 +8,4 @@ returns-then-count-self c =
 
 pub returns : goal.returns
 returns c =
-    λ st he wi or. record { each = λ ws hs h m n. settled (rule_leads h wi or c.requires.fit _ _ (rw c.count_of-count.ensures.0 at c.if-count-self.false)) _ c.charge_time.ensures (λ a b. drops h wi or c.requires.fit) }
+    λ st he wi or. record { each = λ ws hs h m n. settled (rule_leads h wi or c.requires.fit _ _ (rw c.count_of-count.ensures.0 at c.if-count-self.false)) _ c.charge.ensures (λ a b. drops h wi or c.requires.fit) }

@@ -4,4 +4,4 @@ use Rattle.engine.proofs.regs.Regs.matched_rule.Goals as goal
 
 pub returns : goal.returns
 returns c =
-    λ st he wi or. record { each = λ ws hs h m n. settled (matched_leads h wi or c.requires _) _ c.charge_time.ensures (λ a b. drops h wi or c.requires) }
+    λ st he wi or. record { each = λ ws hs h m n. settled (matched_leads h wi or c.requires _) _ c.charge.ensures (λ a b. drops h wi or c.requires) }

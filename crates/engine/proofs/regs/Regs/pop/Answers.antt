@@ -10,4 +10,4 @@ returns-then-self-a c =
 
 pub returns : goal.returns
 returns c =
-    λ st he wi or. record { each = λ ws hs h m n. settled (pop_leads c.requires h _ _ _ _ c.if-self-a.false) _ c.charge_time.ensures (λ a b. record { stack = bears_without _ _ _ h.stack; heap = h.heap; wires = refl; order = refl }) }
+    λ st he wi or. record { each = λ ws hs h m n. settled (pop_leads c.requires h _ _ _ _ c.if-self-a.false) _ c.charge.ensures (λ a b. record { stack = bears_without _ _ _ h.stack; heap = h.heap; wires = refl; order = refl }) }

@@ -7,12 +7,12 @@ use Rattle.engine.proofs.regs.Regs.push.Goals as goal
 
 pub bounds-stack-sp : goal.bounds-stack-sp
 bounds-stack-sp c =
-    let p = went_on c.charge_depth-turn.ensures (sym c.goes_on.ensures ∙ c.if-goes_on.true) in omega (arith, p.depth, c.requires.stack_in_bounds)
+    let p = went_on c.charge-turn.ensures (sym c.goes_on.ensures ∙ c.if-goes_on.true) in omega (arith, p.depth, c.requires.stack_in_bounds)
 
 pub returns-then-goes_on : goal.returns-then-goes_on
 returns-then-goes_on c =
-    λ v he wi or e. record { each = λ ws hs h m n. settle_yes (push_leads c.requires.fit h wi or _ v) _ _ c.charge_depth-turn.ensures (sym c.goes_on.ensures ∙ c.if-goes_on.true) (λ a b. record { stack = bears_push _ ws v _ _ h.stack h.sp e (omega (arith, c.requires.stack_in_bounds, a)); heap = h.heap; wires = refl; order = refl }) }
+    λ v he wi or e. record { each = λ ws hs h m n. settle_yes (push_leads c.requires.fit h wi or _ v) _ _ c.charge-turn.ensures (sym c.goes_on.ensures ∙ c.if-goes_on.true) (λ a b. record { stack = bears_push _ ws v _ _ h.stack h.sp e (omega (arith, c.requires.stack_in_bounds, a)); heap = h.heap; wires = refl; order = refl }) }
 
 pub returns-else-goes_on : goal.returns-else-goes_on
 returns-else-goes_on c =
-    λ v he wi or e. record { each = λ ws hs h m n. settle_no (push_leads c.requires.fit h wi or _ v) _ c.charge_depth-turn.ensures (sym c.goes_on.ensures ∙ c.if-goes_on.false) }
+    λ v he wi or e. record { each = λ ws hs h m n. settle_no (push_leads c.requires.fit h wi or _ v) _ c.charge-turn.ensures (sym c.goes_on.ensures ∙ c.if-goes_on.false) }

@@ -6,12 +6,12 @@ use Rattle.engine.proofs.regs.Regs.push_nulls.Goals as goal
 
 pub blank-requires : goal.blank-requires
 blank-requires c =
-    let p = went_on c.charge_depth-turn.ensures (sym c.goes_on.ensures ∙ c.if-goes_on.true) in omega (arith, p.depth, c.requires.stack_in_bounds)
+    let p = went_on c.charge-turn.ensures (sym c.goes_on.ensures ∙ c.if-goes_on.true) in omega (arith, p.depth, c.requires.stack_in_bounds)
 
 pub returns-then-goes_on : goal.returns-then-goes_on
 returns-then-goes_on c =
-    λ he wi or. record { each = λ ws hs h m n. settle_yes (push_nulls_leads c.requires.fit h wi or _ c.args.a) _ _ c.charge_depth-turn.ensures (sym c.goes_on.ensures ∙ c.if-goes_on.true) (λ a b. record { stack = push_nulls_bears c.requires.fit h wi or c.args.a _ (omega (arith, a, c.requires.stack_in_bounds)) c.blank.ensures; heap = h.heap; wires = refl; order = refl }) }
+    λ he wi or. record { each = λ ws hs h m n. settle_yes (push_nulls_leads c.requires.fit h wi or _ c.args.a) _ _ c.charge-turn.ensures (sym c.goes_on.ensures ∙ c.if-goes_on.true) (λ a b. record { stack = push_nulls_bears c.requires.fit h wi or c.args.a _ (omega (arith, a, c.requires.stack_in_bounds)) c.blank.ensures; heap = h.heap; wires = refl; order = refl }) }
 
 pub returns-else-goes_on : goal.returns-else-goes_on
 returns-else-goes_on c =
-    λ he wi or. record { each = λ ws hs h m n. settle_no (push_nulls_leads c.requires.fit h wi or _ c.args.a) _ c.charge_depth-turn.ensures (sym c.goes_on.ensures ∙ c.if-goes_on.false) }
+    λ he wi or. record { each = λ ws hs h m n. settle_no (push_nulls_leads c.requires.fit h wi or _ c.args.a) _ c.charge-turn.ensures (sym c.goes_on.ensures ∙ c.if-goes_on.false) }

@@ -10,8 +10,8 @@ returns-then-sp-self c =
 
 pub returns-then-goes_on : goal.returns-then-goes_on
 returns-then-goes_on c =
-    λ he wi or. record { each = λ ws hs h m n. settle_yes (slide_leads c.requires.fit h wi or _ _ c.if-sp-self.false) _ _ c.charge_time-turn.ensures (sym c.goes_on.ensures ∙ c.if-goes_on.true) (λ a b. record { stack = slide_bears c.requires.fit h wi or _ _ c.if-sp-self.false (reads_below h 0 _ (omega (arith, c.if-sp-self.false)) refl) (omega (arith, c.requires.fit.sp, c.requires.stack_in_bounds)); heap = h.heap; wires = refl; order = refl }) }
+    λ he wi or. record { each = λ ws hs h m n. settle_yes (slide_leads c.requires.fit h wi or _ _ c.if-sp-self.false) _ _ c.charge-turn.ensures (sym c.goes_on.ensures ∙ c.if-goes_on.true) (λ a b. record { stack = slide_bears c.requires.fit h wi or _ _ c.if-sp-self.false (reads_below h 0 _ (omega (arith, c.if-sp-self.false)) refl) (omega (arith, c.requires.fit.sp, c.requires.stack_in_bounds)); heap = h.heap; wires = refl; order = refl }) }
 
 pub returns-else-goes_on : goal.returns-else-goes_on
 returns-else-goes_on c =
-    λ he wi or. record { each = λ ws hs h m n. settle_no (slide_leads c.requires.fit h wi or _ _ c.if-sp-self.false) _ c.charge_time-turn.ensures (sym c.goes_on.ensures ∙ c.if-goes_on.false) }
+    λ he wi or. record { each = λ ws hs h m n. settle_no (slide_leads c.requires.fit h wi or _ _ c.if-sp-self.false) _ c.charge-turn.ensures (sym c.goes_on.ensures ∙ c.if-goes_on.false) }

@@ -7,4 +7,4 @@ rule_at-requires-clause-k_bound c = c.args.code.now.imaged.accepted.some_rule _ 
 
 pub returns : goal.returns
 returns c =
-    λ st he wi. record { each = λ ws hs h m n. settled (start_leads h wi _ _ _ _ c.rule_at.ensures.0) _ c.charge_time.ensures (λ a b. stays h wi _) }
+    λ st he wi. record { each = λ ws hs h m n. settled (start_leads h wi _ _ _ _ c.rule_at.ensures.0) _ c.charge.ensures (λ a b. stays h wi _) }

@@ -58,7 +58,7 @@ put_words-requires c =
     let p =
     c.requires.blocks.each _ (omega (arith, c.if-sp-self.false)) c.if-w-ne1.false
     (block_least _ (sym c.is_block.ensures ∙ not-false _ c.if-not-is_block.false-raw)) in
-    let d = went_on c.charge_depth-turn.ensures (sym c.goes_on.ensures ∙ c.if-goes_on.true) in
+    let d = went_on c.charge-turn.ensures (sym c.goes_on.ensures ∙ c.if-goes_on.true) in
     (omega (arith, c.requires.heap_in_bounds, c.requires.fit.hp), omega (arith, d.depth, c.requires.stack_in_bounds))
 
 pub returns-then-goes_on : goal.returns-then-goes_on
@@ -73,7 +73,7 @@ returns-then-goes_on c =
           settle_yes
           (unpack_leads c.requires.fit h wi or _ (reads_below h 0 _ (omega (arith, c.if-sp-self.false)) refl)
           (small_below 0 m) c.if-sp-self.false c.if-w-ne1.false _ refl p _ refl q _
-          (sym c.is_block.ensures ∙ not-false _ c.if-not-is_block.false-raw)) _ _ c.charge_depth-turn.ensures (sym c.goes_on.ensures ∙ c.if-goes_on.true)
+          (sym c.is_block.ensures ∙ not-false _ c.if-not-is_block.false-raw)) _ _ c.charge-turn.ensures (sym c.goes_on.ensures ∙ c.if-goes_on.true)
           (λ a b.
           record {
             stack =
@@ -98,5 +98,5 @@ returns-else-goes_on c =
           settle_no
           (unpack_leads c.requires.fit h wi or _ (reads_below h 0 _ (omega (arith, c.if-sp-self.false)) refl)
           (small_below 0 m) c.if-sp-self.false c.if-w-ne1.false _ refl p _ refl q _
-          (sym c.is_block.ensures ∙ not-false _ c.if-not-is_block.false-raw)) _ c.charge_depth-turn.ensures (sym c.goes_on.ensures ∙ c.if-goes_on.false);
+          (sym c.is_block.ensures ∙ not-false _ c.if-not-is_block.false-raw)) _ c.charge-turn.ensures (sym c.goes_on.ensures ∙ c.if-goes_on.false);
     }

@@ -51,7 +51,7 @@ returns-then-room-ne0-2 c =
       each = λ ws hs h m n.
           let k = own_offered h n m c.requires.top_held c.if-sp-self.false in
           let y = roomy (c.room_for-room.ensures.value k) c.if-room-ne0-2.true in
-          settle_yes (write_leads c.requires.fit h _ or P _ c.if-sp-self.false _ p (c.room_for-room.ensures.value k) _ c.if-room-ne0.false) _ _ c.charge_time-turn.ensures (sym c.goes_on.ensures ∙ c.if-goes_on.true)
+          settle_yes (write_leads c.requires.fit h _ or P _ c.if-sp-self.false _ p (c.room_for-room.ensures.value k) _ c.if-room-ne0.false) _ _ c.charge-turn.ensures (sym c.goes_on.ensures ∙ c.if-goes_on.true)
           (λ a b. record {
             stack = bears_without _ _ _ h.stack;
             heap = h.heap;
@@ -65,7 +65,7 @@ returns-else-room-ne0-2 c =
     λ P or p. record {
       each = λ ws hs h m n.
           let k = own_offered h n m c.requires.top_held c.if-sp-self.false in
-          settle_yes (write_leads c.requires.fit h _ or P _ c.if-sp-self.false _ p (c.room_for-room.ensures.value k) _ c.if-room-ne0.false) _ _ c.charge_time-turn.ensures (sym c.goes_on.ensures ∙ c.if-goes_on.true)
+          settle_yes (write_leads c.requires.fit h _ or P _ c.if-sp-self.false _ p (c.room_for-room.ensures.value k) _ c.if-room-ne0.false) _ _ c.charge-turn.ensures (sym c.goes_on.ensures ∙ c.if-goes_on.true)
           (λ a b. record {
             stack = bears_without _ _ _ h.stack;
             heap = h.heap;
@@ -81,7 +81,7 @@ returns-then-room-ne0-3 c =
           let k = own_offered h n m c.requires.top_held c.if-sp-self.false in
           let y = roomy (c.room_for-room.ensures.value k) c.if-room-ne0-3.true in
           still (c.clear_wire.ensures ∙ room_back c.requires.wire_fits y c.if-room-ne0-3.true (c.room_for-room.ensures.wires_after k))
-          (settle_no (write_leads c.requires.fit h _ or P _ c.if-sp-self.false _ p (c.room_for-room.ensures.value k) _ c.if-room-ne0.false) _ c.charge_time-turn.ensures (sym c.goes_on.ensures ∙ c.if-goes_on.false));
+          (settle_no (write_leads c.requires.fit h _ or P _ c.if-sp-self.false _ p (c.room_for-room.ensures.value k) _ c.if-room-ne0.false) _ c.charge-turn.ensures (sym c.goes_on.ensures ∙ c.if-goes_on.false));
     }
 
 pub returns-else-room-ne0-3 : goal.returns-else-room-ne0-3
@@ -90,5 +90,5 @@ returns-else-room-ne0-3 c =
       each = λ ws hs h m n.
           let k = own_offered h n m c.requires.top_held c.if-sp-self.false in
           still (c.room_for-room.ensures.wires_after k ∙ put_none _ _ c.if-room-ne0-3.false)
-          (settle_no (write_leads c.requires.fit h _ or P _ c.if-sp-self.false _ p (c.room_for-room.ensures.value k) _ c.if-room-ne0.false) _ c.charge_time-turn.ensures (sym c.goes_on.ensures ∙ c.if-goes_on.false));
+          (settle_no (write_leads c.requires.fit h _ or P _ c.if-sp-self.false _ p (c.room_for-room.ensures.value k) _ c.if-room-ne0.false) _ c.charge-turn.ensures (sym c.goes_on.ensures ∙ c.if-goes_on.false));
     }
