@@ -37,34 +37,34 @@ impl Regs {
         lim: Limits,
         cost: usize,
         h: u32,
-        a: usize,
+        a: u8,
         stack: &mut [u32],
         heap: &mut [u32],
     ) -> Turn
         requires fit { Fit lim self }
         requires stack_in_bounds { lim.stack ≤ length stack.old }
         requires heap_in_bounds { lim.heap ≤ length heap.old }
-        requires a_bound { a < 256 }
         ensures { (wi or : List ℕ) → Meets lim self (buffers stack.old heap.old wi or) (priced cost (mk_block h a)) result (buffers stack.new heap.new wi or) }
     {
+        let n = a as usize;
         let sp = self.sp;
         let hp = self.hp;
-        if sp - self.lp < a {
+        if sp - self.lp < n {
             return self.halt(Ending::Fault(1));
         }
-        if !all_values(stack, sp, a) {
+        if !all_values(stack, sp, n) {
             return self.halt(Ending::Fault(2));
         }
-        let low = sp - a;
+        let low = sp - n;
         let mut next = self;
         next.sp = low + 1;
-        next.hp = hp + 2 + a;
+        next.hp = hp + 2 + n;
         next.pc = self.pc + 1;
         let turn = self.charge::<true, true>(lim, cost, next);
         if turn.goes_on() {
             heap[hp] = h;
             heap[hp + 1] = a as u32;
-            put_fields(stack, sp, heap, hp + 2, a);
+            put_fields(stack, sp, heap, hp + 2, n);
             stack[low] = 268435456 + hp as u32;
         }
         turn

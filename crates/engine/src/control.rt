@@ -44,12 +44,12 @@ fn locals_end(stack: &[u32], fp: usize) -> usize
 
 impl Regs {
     // "15 Goto b"
-    pub(crate) fn goto(self, lim: Limits, cost: usize, b: usize) -> Turn
+    pub(crate) fn goto(self, lim: Limits, cost: usize, b: u16) -> Turn
         requires { Fit lim self }
         ensures { (st he wi or : List ℕ) → Meets lim self (buffers st he wi or) (priced cost (Goto b)) result (buffers st he wi or) }
     {
         let mut next = self;
-        next.pc = b;
+        next.pc = b as usize;
         self.charge::<false, false>(lim, cost, next)
     }
 
@@ -71,7 +71,7 @@ impl Regs {
         self,
         lim: Limits,
         cost: usize,
-        b: usize,
+        b: u16,
         stack: &[u32],
         heap: &[u32],
     ) -> Turn
@@ -95,7 +95,7 @@ impl Regs {
         }
         let mut to = self.pc + 1;
         if heap[p + 1] == 1 {
-            to = b;
+            to = b as usize;
         }
         let mut next = self;
         next.sp = sp - 1;
@@ -104,14 +104,7 @@ impl Regs {
     }
 
     // "17 Call a [+3]: return address, ruleset word, static link of slp; slp becomes the new sp + 1, rp 0, pc the entry", which is `to`
-    pub(crate) fn call(
-        self,
-        lim: Limits,
-        cost: usize,
-        a: usize,
-        to: usize,
-        stack: &mut [u32],
-    ) -> Turn
+    pub(crate) fn call(self, lim: Limits, cost: usize, a: u8, to: usize, stack: &mut [u32]) -> Turn
         requires fit { Fit lim self }
         requires stack_in_bounds { lim.stack ≤ length stack.old }
         ensures { (P : Program) (he wi or : List ℕ) → P.entry a ≡ to → Meets lim self (buffers stack.old he wi or) (priced cost (Call P a)) result (buffers stack.new he wi or) }
@@ -122,7 +115,7 @@ impl Regs {
         next.pc = to;
         next.slp = sp + 4;
         next.rp = 0;
-        next.rs = a;
+        next.rs = a as usize;
         let turn = self.charge::<true, false>(lim, cost, next);
         if turn.goes_on() {
             stack[sp] = (805306368 + (self.pc + 1)) as u32;

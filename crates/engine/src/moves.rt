@@ -45,32 +45,35 @@ impl Regs {
     }
 
     // "8 Pop a [-a]"
-    pub(crate) fn pop(self, lim: Limits, cost: usize, a: usize) -> Turn
+    pub(crate) fn pop(self, lim: Limits, cost: usize, a: u8) -> Turn
         requires { Fit lim self }
         ensures { (st he wi or : List ℕ) → Meets lim self (buffers st he wi or) (priced cost (Pop a)) result (buffers st he wi or) }
     {
-        if self.sp - self.lp < a {
+        let n = a as usize;
+        if self.sp - self.lp < n {
             return self.halt(Ending::Fault(1));
         }
         let mut next = self;
-        next.sp = self.sp - a;
+        next.sp = self.sp - n;
         next.pc = self.pc + 1;
         self.charge::<false, false>(lim, cost, next)
     }
 
     // "10 Copy a: the word a below the top [+1]"
-    pub(crate) fn copy(self, lim: Limits, cost: usize, a: usize, stack: &mut [u32]) -> Turn
+    pub(crate) fn copy(self, lim: Limits, cost: usize, a: u8, stack: &mut [u32]) -> Turn
         requires fit { Fit lim self }
         requires stack_in_bounds { lim.stack ≤ length stack.old }
         ensures { (he wi or : List ℕ) → Meets lim self (buffers stack.old he wi or) (priced cost (Copy a)) result (buffers stack.new he wi or) }
     {
+        let i = a as usize;
         let sp = self.sp;
-        if sp - self.lp <= a {
+        if sp - self.lp <= i {
             return self.halt(Ending::Fault(1));
         }
-        let w = stack[sp - (a + 1)];
+        let w = stack[sp - (i + 1)];
         self.push(lim, cost, w, stack)
     }
+
     // "4 MkNone [+1]"
     pub(crate) fn mk_none(self, lim: Limits, cost: usize, stack: &mut [u32]) -> Turn
         requires fit { Fit lim self }
@@ -81,38 +84,39 @@ impl Regs {
     }
 
     // "9 Slide a [-a] keeps the top"
-    pub(crate) fn slide(self, lim: Limits, cost: usize, a: usize, stack: &mut [u32]) -> Turn
+    pub(crate) fn slide(self, lim: Limits, cost: usize, a: u8, stack: &mut [u32]) -> Turn
         requires fit { Fit lim self }
         requires stack_in_bounds { lim.stack ≤ length stack.old }
         ensures { (he wi or : List ℕ) → Meets lim self (buffers stack.old he wi or) (priced cost (Slide a)) result (buffers stack.new he wi or) }
     {
+        let n = a as usize;
         let sp = self.sp;
-        if sp - self.lp <= a {
+        if sp - self.lp <= n {
             return self.halt(Ending::Fault(1));
         }
         let top = stack[sp - 1];
         let mut next = self;
-        next.sp = sp - a;
+        next.sp = sp - n;
         next.pc = self.pc + 1;
         let turn = self.charge::<false, false>(lim, cost, next);
         if turn.goes_on() {
-            stack[sp - (a + 1)] = top;
+            stack[sp - (n + 1)] = top;
         }
         turn
     }
 
     // "11 CopyArg a: the word at fp-5-a [+1]"
-    pub(crate) fn copy_arg(self, lim: Limits, cost: usize, a: usize, stack: &mut [u32]) -> Turn
+    pub(crate) fn copy_arg(self, lim: Limits, cost: usize, a: u8, stack: &mut [u32]) -> Turn
         requires fit { Fit lim self }
         requires stack_in_bounds { lim.stack ≤ length stack.old }
-        requires a_bound { a < 256 }
         ensures { (he wi or : List ℕ) → Meets lim self (buffers stack.old he wi or) (priced cost (CopyArg a)) result (buffers stack.new he wi or) }
     {
+        let i = a as usize;
         let fp = self.fp;
-        if fp < 5 + a {
+        if fp < 5 + i {
             return self.halt(Ending::Fault(3));
         }
-        let w = stack[fp - (5 + a)];
+        let w = stack[fp - (5 + i)];
         if !is_plain(w) {
             return self.halt(Ending::Fault(2));
         }
@@ -120,74 +124,76 @@ impl Regs {
     }
 
     // "7 Push a nulls [+a]"
-    pub(crate) fn push_nulls(self, lim: Limits, cost: usize, a: usize, stack: &mut [u32]) -> Turn
+    pub(crate) fn push_nulls(self, lim: Limits, cost: usize, a: u8, stack: &mut [u32]) -> Turn
         requires fit { Fit lim self }
         requires stack_in_bounds { lim.stack ≤ length stack.old }
-        requires a_bound { a < 256 }
         ensures { (he wi or : List ℕ) → Meets lim self (buffers stack.old he wi or) (priced cost (Push a)) result (buffers stack.new he wi or) }
     {
+        let n = a as usize;
         let sp = self.sp;
         let mut next = self;
-        next.sp = sp + a;
+        next.sp = sp + n;
         next.pc = self.pc + 1;
         let turn = self.charge::<true, false>(lim, cost, next);
         if turn.goes_on() {
-            blank(stack, sp, a);
+            blank(stack, sp, n);
         }
         turn
     }
 
     // "12 CreateFrame a [+a+1]: needs 3 values; pushes the frame link, sets fp to the new sp, pushes a nulls"
-    pub(crate) fn create_frame(self, lim: Limits, cost: usize, a: usize, stack: &mut [u32]) -> Turn
+    pub(crate) fn create_frame(self, lim: Limits, cost: usize, a: u8, stack: &mut [u32]) -> Turn
         requires fit { Fit lim self }
         requires stack_in_bounds { lim.stack ≤ length stack.old }
-        requires a_bound { a < 256 }
         ensures { (he wi or : List ℕ) → Meets lim self (buffers stack.old he wi or) (priced cost (CreateFrame a)) result (buffers stack.new he wi or) }
     {
+        let n = a as usize;
         let sp = self.sp;
         if sp - self.lp < 3 {
             return self.halt(Ending::Fault(4));
         }
         let fp = sp + 1;
         let mut next = self;
-        next.sp = fp + a;
+        next.sp = fp + n;
         next.fp = fp;
-        next.lp = fp + a;
+        next.lp = fp + n;
         next.pc = self.pc + 1;
         let turn = self.charge::<true, false>(lim, cost, next);
         if turn.goes_on() {
-            stack[sp] = (1610612736 + (self.fp * 256 + a)) as u32;
-            blank(stack, fp, a);
+            stack[sp] = (1610612736 + (self.fp * 256 + n)) as u32;
+            blank(stack, fp, n);
         }
         turn
     }
 
     // "13 PushVar a [+1]"
-    pub(crate) fn push_var(self, lim: Limits, cost: usize, a: usize, stack: &mut [u32]) -> Turn
+    pub(crate) fn push_var(self, lim: Limits, cost: usize, a: u8, stack: &mut [u32]) -> Turn
         requires fit { Fit lim self }
         requires stack_in_bounds { lim.stack ≤ length stack.old }
         ensures { (he wi or : List ℕ) → Meets lim self (buffers stack.old he wi or) (priced cost (PushVar a)) result (buffers stack.new he wi or) }
     {
+        let i = a as usize;
         let fp = self.fp;
-        if self.lp - fp <= a {
+        if self.lp - fp <= i {
             return self.halt(Ending::Fault(3));
         }
-        let w = stack[fp + a];
+        let w = stack[fp + i];
         self.push(lim, cost, w, stack)
     }
 
     // "14 MakeVar a [-1]"
-    pub(crate) fn make_var(self, lim: Limits, cost: usize, a: usize, stack: &mut [u32]) -> Turn
+    pub(crate) fn make_var(self, lim: Limits, cost: usize, a: u8, stack: &mut [u32]) -> Turn
         requires fit { Fit lim self }
         requires stack_in_bounds { lim.stack ≤ length stack.old }
         ensures { (he wi or : List ℕ) → Meets lim self (buffers stack.old he wi or) (priced cost (MakeVar a)) result (buffers stack.new he wi or) }
     {
+        let i = a as usize;
         let sp = self.sp;
         let fp = self.fp;
         if sp - self.lp < 1 {
             return self.halt(Ending::Fault(1));
         }
-        if self.lp - fp <= a {
+        if self.lp - fp <= i {
             return self.halt(Ending::Fault(3));
         }
         let top = stack[sp - 1];
@@ -196,7 +202,7 @@ impl Regs {
         next.pc = self.pc + 1;
         let turn = self.charge::<false, false>(lim, cost, next);
         if turn.goes_on() {
-            stack[fp + a] = top;
+            stack[fp + i] = top;
         }
         turn
     }

@@ -121,7 +121,7 @@ fn converted(h: u32, c: Option<u32>) -> Result<Cell, Trouble>
 }
 
 // "One operand: 1 not, 2 toFloat.i, 3 toInt.f"; h is its header, x its payload.
-fn prim1(a: usize, h: u32, x: u32) -> Result<Cell, Trouble>
+fn prim1(a: u8, h: u32, x: u32) -> Result<Cell, Trouble>
     ensures { result ≡ tried (primitive1 a) (eqb h (primitive1 a).takes) x 0 }
 {
     match a {
@@ -133,7 +133,7 @@ fn prim1(a: usize, h: u32, x: u32) -> Result<Cell, Trouble>
 }
 
 // "Two": both operands have the header h.
-fn pair(a: usize, h: u32, x: u32, y: u32) -> Result<Cell, Trouble>
+fn pair(a: u8, h: u32, x: u32, y: u32) -> Result<Cell, Trouble>
     ensures { result ≡ tried (primitive2 a) (eqb h (primitive2 a).takes) x y }
 {
     match a {
@@ -164,7 +164,7 @@ fn pair(a: usize, h: u32, x: u32, y: u32) -> Result<Cell, Trouble>
 }
 
 // "the top word being the first operand": its header h0 and payload x, and those of the second.
-fn prim2(a: usize, h0: u32, x: u32, h1: u32, y: u32) -> Result<Cell, Trouble>
+fn prim2(a: u8, h0: u32, x: u32, h1: u32, y: u32) -> Result<Cell, Trouble>
     ensures { result ≡ tried (primitive2 a) (eqb h0 (primitive2 a).takes && eqb h1 (primitive2 a).takes) x y }
 {
     if h0 != h1 {
@@ -181,14 +181,14 @@ const CALL_PRIM1: usize = 19;
 const CALL_PRIM2: usize = 20;
 
 // The cycles of a primitive besides the card's, and none for Raise.
-fn cycles(table: &[u16], op: usize, a: usize) -> u16
+fn cycles(table: &[u16], op: usize, a: u8) -> u16
     requires applies { Applies op a }
     requires table_value { table.now ≡ cycle_table }
     ensures { Cycles op a result }
 {
     match op {
-        CALL_PRIM1 => table[a - 1],
-        CALL_PRIM2 => table[a + 2],
+        CALL_PRIM1 => table[a as usize - 1],
+        CALL_PRIM2 => table[a as usize + 2],
         _ => 0,
     }
 }
@@ -202,7 +202,7 @@ fn operands(op: usize) -> usize
 
 impl Regs {
     // "19 CallPrim1 a [0]"
-    fn try_one(self, a: usize, stack: &[u32], heap: &[u32]) -> Result<Cell, Trouble>
+    fn try_one(self, a: u8, stack: &[u32], heap: &[u32]) -> Result<Cell, Trouble>
         requires lp_le_sp { (self.lp ≤ self.sp) × (self.sp ≤ length stack.now) × (self.hp ≤ length heap.now) }
         requires refs { Refs self stack.now }
         ensures deals { Deals self stack.now heap.now 1 (primitive1 a).cycles (λ P. CallPrim1 P a) result }
@@ -219,7 +219,7 @@ impl Regs {
     }
 
     // "20 CallPrim2 a [-1]", "the top word being the first operand"
-    fn try_two(self, a: usize, stack: &[u32], heap: &[u32]) -> Result<Cell, Trouble>
+    fn try_two(self, a: u8, stack: &[u32], heap: &[u32]) -> Result<Cell, Trouble>
         requires lp_le_sp { (self.lp ≤ self.sp) × (self.sp ≤ length stack.now) × (self.hp ≤ length heap.now) }
         requires refs { Refs self stack.now }
         ensures deals { Deals self stack.now heap.now 2 (primitive2 a).cycles (λ P. CallPrim2 P a) result }
@@ -239,9 +239,8 @@ impl Regs {
     }
 
     // "21 Raise b: makes Exn b of the top value (reference or None)"
-    fn try_raise(self, b: u32, stack: &[u32]) -> Result<Cell, Trouble>
+    fn try_raise(self, b: u16, stack: &[u32]) -> Result<Cell, Trouble>
         requires sp_in_bounds { self.sp ≤ length stack.now }
-        requires b_bound { b < 65536 }
         ensures by_index { (he : List ℕ) → Deals self stack.now he 1 0 (λ P. Raise P b) result }
         ensures fair { Fair self 1 result }
     {
@@ -254,23 +253,15 @@ impl Regs {
             return Err(WRONG_KIND);
         }
         Err(Trouble::Raises {
-            exception: b,
+            exception: b as u32,
             field: w,
         })
     }
 
     // By opcode.
-    fn try_any(
-        self,
-        op: usize,
-        a: usize,
-        b: u32,
-        stack: &[u32],
-        heap: &[u32],
-    ) -> Result<Cell, Trouble>
+    fn try_any(self, op: usize, a: u8, b: u16, stack: &[u32], heap: &[u32]) -> Result<Cell, Trouble>
         requires lp_le_sp { (self.lp ≤ self.sp) × (self.sp ≤ length stack.now) × (self.hp ≤ length heap.now) }
         requires refs { Refs self stack.now }
-        requires b_bound { b < 65536 }
         ensures { Tries self stack.now heap.now op a b result }
     {
         match op {
@@ -362,8 +353,8 @@ impl Regs {
         lim: Limits,
         cost: usize,
         op: usize,
-        a: usize,
-        b: u32,
+        a: u8,
+        b: u16,
         handler: Option<Handler>,
         table: &[u16],
         stack: &mut [u32],
@@ -373,7 +364,6 @@ impl Regs {
         requires stack_in_bounds { lim.stack ≤ length stack.old }
         requires heap_in_bounds { lim.heap ≤ length heap.old }
         requires refs { Refs self stack.old }
-        requires b_bound { b < 65536 }
         requires cost_bound { cost < 65536 }
         requires applies { Applies op a }
         requires table_value { table.now ≡ cycle_table }

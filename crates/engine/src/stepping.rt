@@ -51,7 +51,7 @@ impl Regs {
             16 => return self.if_true(lim, cost, code.b_at(pc), stack, heap),
             17 => {
                 let a = code.a_at(pc);
-                return self.call(lim, cost, a, code.entry_of(a), stack);
+                return self.call(lim, cost, a, code.entry_of(a as usize), stack);
             }
             18 => return self.give_back(lim, cost, stack),
             19 | 20 | 21 => return self.apply(
@@ -59,7 +59,7 @@ impl Regs {
                 cost,
                 op,
                 code.a_at(pc),
-                code.b_at(pc) as u32,
+                code.b_at(pc),
                 code.handler,
                 code.cycles,
                 stack,

@@ -103,7 +103,7 @@ fn room_for(w: u32, o: usize, heap: &[u32], wires: &mut [u32]) -> Room
 
 impl Regs {
     // "36 Consume a and 37 MaybeConsume a (empty the wire)"
-    pub(crate) fn consume(self, lim: Limits, cost: usize, a: usize, wires: &mut [u32]) -> Turn
+    pub(crate) fn consume(self, lim: Limits, cost: usize, a: u8, wires: &mut [u32]) -> Turn
         requires fit { Fit lim self }
         requires a_in_bounds { 65 * a + 65 ≤ length wires.old }
         ensures { (st he or : List ℕ) → Meets lim self (buffers st he wires.old or) (priced cost (Consume a)) result (buffers st he wires.new or) }
@@ -112,7 +112,7 @@ impl Regs {
         next.pc = self.pc + 1;
         let turn = self.charge::<false, false>(lim, cost, next);
         if turn.goes_on() {
-            clear_wire(wires, 65 * a);
+            clear_wire(wires, 65 * a as usize);
         }
         turn
     }
@@ -155,7 +155,7 @@ impl Regs {
         self,
         lim: Limits,
         cost: usize,
-        a: usize,
+        a: u8,
         stack: &mut [u32],
         heap: &mut [u32],
         wires: &[u32],
@@ -166,7 +166,7 @@ impl Regs {
         requires wire_fits { WireFits wires.now a }
         ensures { (or : List ℕ) → Meets lim self (buffers stack.old heap.old wires.now or) (priced cost (CopyInput a)) result (buffers stack.new heap.new wires.now or) }
     {
-        let at = 65 * a;
+        let at = 65 * a as usize;
         let k = wires[at] as usize;
         if k == 0 {
             return self.halt(Ending::Fault(8));
@@ -191,7 +191,7 @@ impl Regs {
         self,
         lim: Limits,
         cost: usize,
-        a: usize,
+        a: u8,
         inputs: usize,
         stack: &[u32],
         heap: &[u32],
@@ -208,7 +208,7 @@ impl Regs {
             return self.halt(Ending::Fault(1));
         }
         let w = stack[sp - 1];
-        let o = inputs + a;
+        let o = inputs + a as usize;
         let room = room_for(w, o, heap, wires);
         if room.fault != 0 {
             return self.halt(Ending::Fault(room.fault));

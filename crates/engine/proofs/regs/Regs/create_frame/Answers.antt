@@ -22,8 +22,8 @@ shape_of-stack c = c.blank.auto.stack ∙ simp length-set
 
 pub returns-then-goes_on : goal.returns-then-goes_on
 returns-then-goes_on c =
-    λ he wi or. record { each = λ ws hs h m n. settle_yes (create_leads c.requires.fit h wi or _ _ c.requires.a_bound c.if-sp-self-lt3.false) _ _ c.charge-turn.ensures (sym c.goes_on.ensures ∙ c.if-goes_on.true) (λ a b. record { stack = create_bears c.requires.fit h wi or _ _ _ refl (omega (arith, a, c.requires.stack_in_bounds)) c.blank.ensures; heap = h.heap; wires = refl; order = refl }) }
+    λ he wi or. record { each = λ ws hs h m n. settle_yes (create_leads c.requires.fit h wi or _ _ c.ranges.a.fits c.if-sp-self-lt3.false) _ _ c.charge-turn.ensures (sym c.goes_on.ensures ∙ c.if-goes_on.true) (λ a b. record { stack = create_bears c.requires.fit h wi or _ _ _ refl (omega (arith, a, c.requires.stack_in_bounds)) c.blank.ensures; heap = h.heap; wires = refl; order = refl }) }
 
 pub returns-else-goes_on : goal.returns-else-goes_on
 returns-else-goes_on c =
-    λ he wi or. record { each = λ ws hs h m n. settle_no (create_leads c.requires.fit h wi or _ _ c.requires.a_bound c.if-sp-self-lt3.false) _ c.charge-turn.ensures (sym c.goes_on.ensures ∙ c.if-goes_on.false) }
+    λ he wi or. record { each = λ ws hs h m n. settle_no (create_leads c.requires.fit h wi or _ _ c.ranges.a.fits c.if-sp-self-lt3.false) _ c.charge-turn.ensures (sym c.goes_on.ensures ∙ c.if-goes_on.false) }
