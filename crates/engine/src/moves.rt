@@ -3,11 +3,12 @@ ghost use Rattle.std.specs.Prelude.{◌≡◌, List, ℕ, ◌+◌, ◌-◌, ◌�
 ghost use Rattle.std.proofs.lemmas.List.Edits.{sets};
 ghost use Rattle.hume.specs.Words.{Word, bits};
 ghost use Rattle.hume.specs.Instructions.{MkNone, Push, Pop, Slide, Copy, CopyArg, CreateFrame, PushVar, MakeVar};
+ghost use Rattle.engine.specs.Limits.{Limits, Within, up_to};
 ghost use Rattle.engine.specs.Turns.{Meets, priced, pushing, buffers};
 ghost use Rattle.engine.specs.Fits.{Fit};
 
 use super::Ending;
-use super::regs::{Limits, Regs, Turn};
+use super::regs::{Regs, Turn};
 use super::words::is_plain;
 
 // n nulls from a place on. An area is not wiped, so they are stored; for two or fewer, a call that fills memory takes longer.
@@ -28,16 +29,16 @@ fn blank(stack: &mut [u32], at: usize, n: usize)
 
 impl Regs {
     // A word more on the stack, at the next instruction.
-    pub(crate) fn push(self, lim: Limits, cost: usize, w: u32, stack: &mut [u32]) -> Turn
-        requires fit { Fit lim self }
-        requires stack_in_bounds { lim.stack ≤ length stack.old }
-        ensures { (v : Word) (he wi or : List ℕ) → w ≡ bits v → Meets lim self (buffers stack.old he wi or) (priced cost (pushing v)) result (buffers stack.new he wi or) }
+    pub(crate) fn push(self, cost: usize, w: u32, stack: &mut [u32]) -> Turn
+        requires fit { Fit self }
+        requires sp_in_bounds { self.sp ≤ length stack.old }
+        ensures { (heap : ℕ) (v : Word) (he wi or : List ℕ) → w ≡ bits v → self.hp ≤ heap → Meets (up_to (length stack.old) heap) self (buffers stack.old he wi or) (priced cost (pushing v)) result (buffers stack.new he wi or) }
     {
         let sp = self.sp;
         let mut next = self;
         next.sp = sp + 1;
         next.pc = self.pc + 1;
-        let turn = self.charge::<true, false>(lim, cost, next);
+        let turn = self.charge(cost, next, Some(stack.len()), None);
         if turn.goes_on() {
             stack[sp] = w;
         }
@@ -45,9 +46,9 @@ impl Regs {
     }
 
     // "8 Pop a [-a]"
-    pub(crate) fn pop(self, lim: Limits, cost: usize, a: u8) -> Turn
-        requires { Fit lim self }
-        ensures { (st he wi or : List ℕ) → Meets lim self (buffers st he wi or) (priced cost (Pop a)) result (buffers st he wi or) }
+    pub(crate) fn pop(self, cost: usize, a: u8) -> Turn
+        requires { Fit self }
+        ensures { (lim : Limits) (st he wi or : List ℕ) → Within lim self → Meets lim self (buffers st he wi or) (priced cost (Pop a)) result (buffers st he wi or) }
     {
         let n = a as usize;
         if self.sp - self.lp < n {
@@ -56,14 +57,14 @@ impl Regs {
         let mut next = self;
         next.sp = self.sp - n;
         next.pc = self.pc + 1;
-        self.charge::<false, false>(lim, cost, next)
+        self.charge(cost, next, None, None)
     }
 
     // "10 Copy a: the word a below the top [+1]"
-    pub(crate) fn copy(self, lim: Limits, cost: usize, a: u8, stack: &mut [u32]) -> Turn
-        requires fit { Fit lim self }
-        requires stack_in_bounds { lim.stack ≤ length stack.old }
-        ensures { (he wi or : List ℕ) → Meets lim self (buffers stack.old he wi or) (priced cost (Copy a)) result (buffers stack.new he wi or) }
+    pub(crate) fn copy(self, cost: usize, a: u8, stack: &mut [u32]) -> Turn
+        requires fit { Fit self }
+        requires sp_in_bounds { self.sp ≤ length stack.old }
+        ensures { (heap : ℕ) (he wi or : List ℕ) → self.hp ≤ heap → Meets (up_to (length stack.old) heap) self (buffers stack.old he wi or) (priced cost (Copy a)) result (buffers stack.new he wi or) }
     {
         let i = a as usize;
         let sp = self.sp;
@@ -71,23 +72,23 @@ impl Regs {
             return self.halt(Ending::Fault(1));
         }
         let w = stack[sp - (i + 1)];
-        self.push(lim, cost, w, stack)
+        self.push(cost, w, stack)
     }
 
     // "4 MkNone [+1]"
-    pub(crate) fn mk_none(self, lim: Limits, cost: usize, stack: &mut [u32]) -> Turn
-        requires fit { Fit lim self }
-        requires stack_in_bounds { lim.stack ≤ length stack.old }
-        ensures { (he wi or : List ℕ) → Meets lim self (buffers stack.old he wi or) (priced cost MkNone) result (buffers stack.new he wi or) }
+    pub(crate) fn mk_none(self, cost: usize, stack: &mut [u32]) -> Turn
+        requires fit { Fit self }
+        requires sp_in_bounds { self.sp ≤ length stack.old }
+        ensures { (heap : ℕ) (he wi or : List ℕ) → self.hp ≤ heap → Meets (up_to (length stack.old) heap) self (buffers stack.old he wi or) (priced cost MkNone) result (buffers stack.new he wi or) }
     {
-        self.push(lim, cost, 536870912, stack)
+        self.push(cost, 536870912, stack)
     }
 
     // "9 Slide a [-a] keeps the top"
-    pub(crate) fn slide(self, lim: Limits, cost: usize, a: u8, stack: &mut [u32]) -> Turn
-        requires fit { Fit lim self }
-        requires stack_in_bounds { lim.stack ≤ length stack.old }
-        ensures { (he wi or : List ℕ) → Meets lim self (buffers stack.old he wi or) (priced cost (Slide a)) result (buffers stack.new he wi or) }
+    pub(crate) fn slide(self, cost: usize, a: u8, stack: &mut [u32]) -> Turn
+        requires fit { Fit self }
+        requires sp_in_bounds { self.sp ≤ length stack.old }
+        ensures { (lim : Limits) (he wi or : List ℕ) → Within lim self → Meets lim self (buffers stack.old he wi or) (priced cost (Slide a)) result (buffers stack.new he wi or) }
     {
         let n = a as usize;
         let sp = self.sp;
@@ -98,7 +99,7 @@ impl Regs {
         let mut next = self;
         next.sp = sp - n;
         next.pc = self.pc + 1;
-        let turn = self.charge::<false, false>(lim, cost, next);
+        let turn = self.charge(cost, next, None, None);
         if turn.goes_on() {
             stack[sp - (n + 1)] = top;
         }
@@ -106,10 +107,10 @@ impl Regs {
     }
 
     // "11 CopyArg a: the word at fp-5-a [+1]"
-    pub(crate) fn copy_arg(self, lim: Limits, cost: usize, a: u8, stack: &mut [u32]) -> Turn
-        requires fit { Fit lim self }
-        requires stack_in_bounds { lim.stack ≤ length stack.old }
-        ensures { (he wi or : List ℕ) → Meets lim self (buffers stack.old he wi or) (priced cost (CopyArg a)) result (buffers stack.new he wi or) }
+    pub(crate) fn copy_arg(self, cost: usize, a: u8, stack: &mut [u32]) -> Turn
+        requires fit { Fit self }
+        requires sp_in_bounds { self.sp ≤ length stack.old }
+        ensures { (heap : ℕ) (he wi or : List ℕ) → self.hp ≤ heap → Meets (up_to (length stack.old) heap) self (buffers stack.old he wi or) (priced cost (CopyArg a)) result (buffers stack.new he wi or) }
     {
         let i = a as usize;
         let fp = self.fp;
@@ -120,21 +121,21 @@ impl Regs {
         if !is_plain(w) {
             return self.halt(Ending::Fault(2));
         }
-        self.push(lim, cost, w, stack)
+        self.push(cost, w, stack)
     }
 
     // "7 Push a nulls [+a]"
-    pub(crate) fn push_nulls(self, lim: Limits, cost: usize, a: u8, stack: &mut [u32]) -> Turn
-        requires fit { Fit lim self }
-        requires stack_in_bounds { lim.stack ≤ length stack.old }
-        ensures { (he wi or : List ℕ) → Meets lim self (buffers stack.old he wi or) (priced cost (Push a)) result (buffers stack.new he wi or) }
+    pub(crate) fn push_nulls(self, cost: usize, a: u8, stack: &mut [u32]) -> Turn
+        requires fit { Fit self }
+        requires sp_in_bounds { self.sp ≤ length stack.old }
+        ensures { (heap : ℕ) (he wi or : List ℕ) → self.hp ≤ heap → Meets (up_to (length stack.old) heap) self (buffers stack.old he wi or) (priced cost (Push a)) result (buffers stack.new he wi or) }
     {
         let n = a as usize;
         let sp = self.sp;
         let mut next = self;
         next.sp = sp + n;
         next.pc = self.pc + 1;
-        let turn = self.charge::<true, false>(lim, cost, next);
+        let turn = self.charge(cost, next, Some(stack.len()), None);
         if turn.goes_on() {
             blank(stack, sp, n);
         }
@@ -142,10 +143,10 @@ impl Regs {
     }
 
     // "12 CreateFrame a [+a+1]: needs 3 values; pushes the frame link, sets fp to the new sp, pushes a nulls"
-    pub(crate) fn create_frame(self, lim: Limits, cost: usize, a: u8, stack: &mut [u32]) -> Turn
-        requires fit { Fit lim self }
-        requires stack_in_bounds { lim.stack ≤ length stack.old }
-        ensures { (he wi or : List ℕ) → Meets lim self (buffers stack.old he wi or) (priced cost (CreateFrame a)) result (buffers stack.new he wi or) }
+    pub(crate) fn create_frame(self, cost: usize, a: u8, stack: &mut [u32]) -> Turn
+        requires fit { Fit self }
+        requires sp_in_bounds { self.sp ≤ length stack.old }
+        ensures { (heap : ℕ) (he wi or : List ℕ) → self.hp ≤ heap → Meets (up_to (length stack.old) heap) self (buffers stack.old he wi or) (priced cost (CreateFrame a)) result (buffers stack.new he wi or) }
     {
         let n = a as usize;
         let sp = self.sp;
@@ -158,7 +159,7 @@ impl Regs {
         next.fp = fp;
         next.lp = fp + n;
         next.pc = self.pc + 1;
-        let turn = self.charge::<true, false>(lim, cost, next);
+        let turn = self.charge(cost, next, Some(stack.len()), None);
         if turn.goes_on() {
             stack[sp] = (1610612736 + (self.fp * 256 + n)) as u32;
             blank(stack, fp, n);
@@ -167,10 +168,10 @@ impl Regs {
     }
 
     // "13 PushVar a [+1]"
-    pub(crate) fn push_var(self, lim: Limits, cost: usize, a: u8, stack: &mut [u32]) -> Turn
-        requires fit { Fit lim self }
-        requires stack_in_bounds { lim.stack ≤ length stack.old }
-        ensures { (he wi or : List ℕ) → Meets lim self (buffers stack.old he wi or) (priced cost (PushVar a)) result (buffers stack.new he wi or) }
+    pub(crate) fn push_var(self, cost: usize, a: u8, stack: &mut [u32]) -> Turn
+        requires fit { Fit self }
+        requires sp_in_bounds { self.sp ≤ length stack.old }
+        ensures { (heap : ℕ) (he wi or : List ℕ) → self.hp ≤ heap → Meets (up_to (length stack.old) heap) self (buffers stack.old he wi or) (priced cost (PushVar a)) result (buffers stack.new he wi or) }
     {
         let i = a as usize;
         let fp = self.fp;
@@ -178,14 +179,14 @@ impl Regs {
             return self.halt(Ending::Fault(3));
         }
         let w = stack[fp + i];
-        self.push(lim, cost, w, stack)
+        self.push(cost, w, stack)
     }
 
     // "14 MakeVar a [-1]"
-    pub(crate) fn make_var(self, lim: Limits, cost: usize, a: u8, stack: &mut [u32]) -> Turn
-        requires fit { Fit lim self }
-        requires stack_in_bounds { lim.stack ≤ length stack.old }
-        ensures { (he wi or : List ℕ) → Meets lim self (buffers stack.old he wi or) (priced cost (MakeVar a)) result (buffers stack.new he wi or) }
+    pub(crate) fn make_var(self, cost: usize, a: u8, stack: &mut [u32]) -> Turn
+        requires fit { Fit self }
+        requires sp_in_bounds { self.sp ≤ length stack.old }
+        ensures { (lim : Limits) (he wi or : List ℕ) → Within lim self → Meets lim self (buffers stack.old he wi or) (priced cost (MakeVar a)) result (buffers stack.new he wi or) }
     {
         let i = a as usize;
         let sp = self.sp;
@@ -200,7 +201,7 @@ impl Regs {
         let mut next = self;
         next.sp = sp - 1;
         next.pc = self.pc + 1;
-        let turn = self.charge::<false, false>(lim, cost, next);
+        let turn = self.charge(cost, next, None, None);
         if turn.goes_on() {
             stack[fp + i] = top;
         }

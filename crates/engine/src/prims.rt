@@ -5,6 +5,7 @@ ghost use Rattle.hume.specs.Image.{Program};
 ghost use Rattle.hume.specs.Primitives.{truth as truth_of, is_true, prim1 as primitive1, prim2 as primitive2};
 ghost use Rattle.hume.specs.Instructions.{CallPrim1, CallPrim2, Raise};
 ghost use Rattle.arith.specs.Cuts.{cut};
+ghost use Rattle.engine.specs.Limits.{Within, up_to};
 ghost use Rattle.engine.specs.Turns.{Meets, priced, buffers};
 ghost use Rattle.engine.specs.Fits.{Fit, Refs};
 ghost use Rattle.engine.specs.Outcomes.{tried, kept, quotient, cutting};
@@ -12,7 +13,7 @@ ghost use Rattle.engine.specs.Outcomes.{operands as operands_of, results, throws
 
 use super::Ending;
 use super::image::Handler;
-use super::regs::{Limits, Regs, Turn};
+use super::regs::{Regs, Turn};
 use super::words::{BOOL, EXN, FLOAT, INT, LINK, NONE, REFERENCE, is_value, place_of};
 use arith::{
     add_float, add_int, div_float, div_int, eq_float, le_float, le_int, lt_float, lt_int, mod_int,
@@ -274,7 +275,6 @@ impl Regs {
     // "result 2 heap words", above the lower words: in the place of operands, or on top of all
     pub(crate) fn give(
         self,
-        lim: Limits,
         cost: usize,
         low: usize,
         h: u32,
@@ -282,18 +282,17 @@ impl Regs {
         stack: &mut [u32],
         heap: &mut [u32],
     ) -> Turn
-        requires fit { Fit lim self }
-        requires stack_in_bounds { lim.stack ≤ length stack.old }
-        requires heap_in_bounds { lim.heap ≤ length heap.old }
+        requires fit { Fit self }
+        requires within { Within (up_to (length stack.old) (length heap.old)) self }
         requires lp_le_low { (self.lp ≤ low) × (low ≤ self.sp) }
-        ensures { (t k : ℕ) (wi or : List ℕ) → cost ≡ t + k → Meets lim self (buffers stack.old heap.old wi or) (priced t (results k low h x)) result (buffers stack.new heap.new wi or) }
+        ensures { (t k : ℕ) (wi or : List ℕ) → cost ≡ t + k → Meets (up_to (length stack.old) (length heap.old)) self (buffers stack.old heap.old wi or) (priced t (results k low h x)) result (buffers stack.new heap.new wi or) }
     {
         let hp = self.hp;
         let mut next = self;
         next.sp = low + 1;
         next.hp = hp + 2;
         next.pc = self.pc + 1;
-        let turn = self.charge::<true, true>(lim, cost, next);
+        let turn = self.charge(cost, next, Some(stack.len()), Some(heap.len()));
         if turn.goes_on() {
             heap[hp] = h;
             heap[hp + 1] = x;
@@ -306,7 +305,6 @@ impl Regs {
     // with rp 0"; "4 exception (number) with no handler"
     fn raise(
         self,
-        lim: Limits,
         cost: usize,
         e: u32,
         w: u32,
@@ -314,11 +312,10 @@ impl Regs {
         stack: &mut [u32],
         heap: &mut [u32],
     ) -> Turn
-        requires fit { Fit lim self }
-        requires stack_in_bounds { lim.stack ≤ length stack.old }
-        requires heap_in_bounds { lim.heap ≤ length heap.old }
+        requires fit { Fit self }
+        requires within { Within (up_to (length stack.old) (length heap.old)) self }
         requires e_bound { e < 65536 }
-        ensures { (P : Program) (t k : ℕ) (wi or : List ℕ) → Handled P handler → cost ≡ t + k → Meets lim self (buffers stack.old heap.old wi or) (priced t (throws P k e w)) result (buffers stack.new heap.new wi or) }
+        ensures { (P : Program) (t k : ℕ) (wi or : List ℕ) → Handled P handler → cost ≡ t + k → Meets (up_to (length stack.old) (length heap.old)) self (buffers stack.old heap.old wi or) (priced t (throws P k e w)) result (buffers stack.new heap.new wi or) }
     {
         let Some(handler) = handler else {
             return self.halt(Ending::Unhandled(e));
@@ -333,7 +330,7 @@ impl Regs {
         next.slp = 0;
         next.rp = 0;
         next.rs = handler.ruleset;
-        let turn = self.charge::<true, true>(lim, cost, next);
+        let turn = self.charge(cost, next, Some(stack.len()), Some(heap.len()));
         if turn.goes_on() {
             heap[hp] = EXN + e;
             heap[hp + 1] = 1;
@@ -350,7 +347,6 @@ impl Regs {
     // 19 CallPrim1, 20 CallPrim2 and 21 Raise.
     pub(crate) fn apply(
         self,
-        lim: Limits,
         cost: usize,
         op: usize,
         a: u8,
@@ -360,27 +356,26 @@ impl Regs {
         stack: &mut [u32],
         heap: &mut [u32],
     ) -> Turn
-        requires fit { Fit lim self }
-        requires stack_in_bounds { lim.stack ≤ length stack.old }
-        requires heap_in_bounds { lim.heap ≤ length heap.old }
+        requires fit { Fit self }
+        requires within { Within (up_to (length stack.old) (length heap.old)) self }
         requires refs { Refs self stack.old }
         requires cost_bound { cost < 65536 }
         requires applies { Applies op a }
         requires table_value { table.now ≡ cycle_table }
-        ensures prim1 { (P : Program) (wi or : List ℕ) → Handled P handler → op ≡ 19 → Meets lim self (buffers stack.old heap.old wi or) (priced cost (CallPrim1 P a)) result (buffers stack.new heap.new wi or) }
-        ensures prim2 { (P : Program) (wi or : List ℕ) → Handled P handler → op ≡ 20 → Meets lim self (buffers stack.old heap.old wi or) (priced cost (CallPrim2 P a)) result (buffers stack.new heap.new wi or) }
-        ensures raise { (P : Program) (wi or : List ℕ) → Handled P handler → op ≡ 21 → Meets lim self (buffers stack.old heap.old wi or) (priced cost (Raise P b)) result (buffers stack.new heap.new wi or) }
+        ensures prim1 { (P : Program) (wi or : List ℕ) → Handled P handler → op ≡ 19 → Meets (up_to (length stack.old) (length heap.old)) self (buffers stack.old heap.old wi or) (priced cost (CallPrim1 P a)) result (buffers stack.new heap.new wi or) }
+        ensures prim2 { (P : Program) (wi or : List ℕ) → Handled P handler → op ≡ 20 → Meets (up_to (length stack.old) (length heap.old)) self (buffers stack.old heap.old wi or) (priced cost (CallPrim2 P a)) result (buffers stack.new heap.new wi or) }
+        ensures raise { (P : Program) (wi or : List ℕ) → Handled P handler → op ≡ 21 → Meets (up_to (length stack.old) (length heap.old)) self (buffers stack.old heap.old wi or) (priced cost (Raise P b)) result (buffers stack.new heap.new wi or) }
     {
         let tried = self.try_any(op, a, b, stack, heap);
         let time = cost + cycles(table, op, a) as usize;
         match tried {
             Ok(cell) => {
                 let low = self.sp - operands(op);
-                self.give(lim, time, low, cell.header, cell.payload, stack, heap)
+                self.give(time, low, cell.header, cell.payload, stack, heap)
             }
             Err(Trouble::Fault(n)) => self.halt(Ending::Fault(n)),
             Err(Trouble::Raises { exception, field }) => {
-                self.raise(lim, time, exception, field, handler, stack, heap)
+                self.raise(time, exception, field, handler, stack, heap)
             }
         }
     }

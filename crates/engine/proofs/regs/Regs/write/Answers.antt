@@ -7,7 +7,7 @@ use Rattle.engine.proofs.regs.Regs.write.Goals as goal
 
 pub returns-then-sp-self : goal.returns-then-sp-self
 returns-then-sp-self c =
-    λ P or p. record { each = λ ws hs h m n. write_few c.requires.fit h _ or P _ _ c.if-sp-self.true c.halt.ensures }
+    λ lim P or p wn. record { each = λ ws hs h m n. write_few c.requires.fit h _ or P _ _ c.if-sp-self.true c.halt.ensures }
 
 pub room_for-room-requires : goal.room_for-room-requires
 room_for-room-requires c =
@@ -18,7 +18,7 @@ room_for-room-requires c =
 
 pub returns-then-room-ne0 : goal.returns-then-room-ne0
 returns-then-room-ne0 c =
-    λ P or p. record {
+    λ lim P or p wn. record {
       each = λ ws hs h m n.
           let k = own_offered h n m c.requires.top_held c.if-sp-self.false in
           still (c.room_for-room.ensures.wires_after k ∙ put_none _ _ (faulty _ _ _ (c.room_for-room.ensures.value k) c.if-room-ne0.true))
@@ -47,11 +47,11 @@ clear_wire-requires c = omega (arith, wire_inside c.requires.wire_fits, c.room_f
 
 pub returns-then-room-ne0-2 : goal.returns-then-room-ne0-2
 returns-then-room-ne0-2 c =
-    λ P or p. record {
+    λ lim P or p wn. record {
       each = λ ws hs h m n.
           let k = own_offered h n m c.requires.top_held c.if-sp-self.false in
           let y = roomy (c.room_for-room.ensures.value k) c.if-room-ne0-2.true in
-          settle_yes (write_leads c.requires.fit h _ or P _ c.if-sp-self.false _ p (c.room_for-room.ensures.value k) _ c.if-room-ne0.false) _ _ c.charge-turn.ensures (sym c.goes_on.ensures ∙ c.if-goes_on.true)
+          settle_yes (write_leads c.requires.fit h _ or P _ c.if-sp-self.false _ p (c.room_for-room.ensures.value k) _ c.if-room-ne0.false) _ _ (c.charge-turn.ensures _ (omega (arith, wn.stack, c.requires.fit.fp, c.requires.fit.lp)) wn.heap) (sym c.goes_on.ensures ∙ c.if-goes_on.true)
           (λ a b. record {
             stack = bears_without _ _ _ h.stack;
             heap = h.heap;
@@ -62,10 +62,10 @@ returns-then-room-ne0-2 c =
 
 pub returns-else-room-ne0-2 : goal.returns-else-room-ne0-2
 returns-else-room-ne0-2 c =
-    λ P or p. record {
+    λ lim P or p wn. record {
       each = λ ws hs h m n.
           let k = own_offered h n m c.requires.top_held c.if-sp-self.false in
-          settle_yes (write_leads c.requires.fit h _ or P _ c.if-sp-self.false _ p (c.room_for-room.ensures.value k) _ c.if-room-ne0.false) _ _ c.charge-turn.ensures (sym c.goes_on.ensures ∙ c.if-goes_on.true)
+          settle_yes (write_leads c.requires.fit h _ or P _ c.if-sp-self.false _ p (c.room_for-room.ensures.value k) _ c.if-room-ne0.false) _ _ (c.charge-turn.ensures _ (omega (arith, wn.stack, c.requires.fit.fp, c.requires.fit.lp)) wn.heap) (sym c.goes_on.ensures ∙ c.if-goes_on.true)
           (λ a b. record {
             stack = bears_without _ _ _ h.stack;
             heap = h.heap;
@@ -76,19 +76,19 @@ returns-else-room-ne0-2 c =
 
 pub returns-then-room-ne0-3 : goal.returns-then-room-ne0-3
 returns-then-room-ne0-3 c =
-    λ P or p. record {
+    λ lim P or p wn. record {
       each = λ ws hs h m n.
           let k = own_offered h n m c.requires.top_held c.if-sp-self.false in
           let y = roomy (c.room_for-room.ensures.value k) c.if-room-ne0-3.true in
           still (c.clear_wire.ensures ∙ room_back c.requires.wire_fits y c.if-room-ne0-3.true (c.room_for-room.ensures.wires_after k))
-          (settle_no (write_leads c.requires.fit h _ or P _ c.if-sp-self.false _ p (c.room_for-room.ensures.value k) _ c.if-room-ne0.false) _ c.charge-turn.ensures (sym c.goes_on.ensures ∙ c.if-goes_on.false));
+          (settle_no (write_leads c.requires.fit h _ or P _ c.if-sp-self.false _ p (c.room_for-room.ensures.value k) _ c.if-room-ne0.false) _ (c.charge-turn.ensures _ (omega (arith, wn.stack, c.requires.fit.fp, c.requires.fit.lp)) wn.heap) (sym c.goes_on.ensures ∙ c.if-goes_on.false));
     }
 
 pub returns-else-room-ne0-3 : goal.returns-else-room-ne0-3
 returns-else-room-ne0-3 c =
-    λ P or p. record {
+    λ lim P or p wn. record {
       each = λ ws hs h m n.
           let k = own_offered h n m c.requires.top_held c.if-sp-self.false in
           still (c.room_for-room.ensures.wires_after k ∙ put_none _ _ c.if-room-ne0-3.false)
-          (settle_no (write_leads c.requires.fit h _ or P _ c.if-sp-self.false _ p (c.room_for-room.ensures.value k) _ c.if-room-ne0.false) _ c.charge-turn.ensures (sym c.goes_on.ensures ∙ c.if-goes_on.false));
+          (settle_no (write_leads c.requires.fit h _ or P _ c.if-sp-self.false _ p (c.room_for-room.ensures.value k) _ c.if-room-ne0.false) _ (c.charge-turn.ensures _ (omega (arith, wn.stack, c.requires.fit.fp, c.requires.fit.lp)) wn.heap) (sym c.goes_on.ensures ∙ c.if-goes_on.false));
     }
