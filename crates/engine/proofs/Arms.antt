@@ -12,7 +12,7 @@ use Rattle.hume.specs.State.{State, End, Deed}
 use Rattle.hume.specs.Machine.{instruction, deed, charged, price, acts, machine}
 use Rattle.laws.specs.Accepted.{CardFits}
 use Rattle.engine.specs.Turns.{core, Buffers, Turned, Meets, priced}
-use Rattle.engine.specs.declared.regs.Limits.{Limits}
+use Rattle.engine.specs.Limits.{Limits}
 use Rattle.engine.specs.declared.regs.Regs.{Regs}
 use Rattle.engine.specs.declared.regs.Turn.{Turn}
 

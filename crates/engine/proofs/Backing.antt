@@ -11,7 +11,6 @@ use Rattle.reach.specs.Sound.{Frames, bottom, frame}
 use Rattle.engine.specs.Fits.{Fit}
 use Rattle.engine.specs.Frames.{Framed}
 use Rattle.engine.specs.Turns.{Smalls, Holds}
-use Rattle.engine.specs.declared.regs.Limits.{Limits}
 use Rattle.engine.specs.declared.regs.Regs.{Regs}
 use Rattle.engine.proofs.WordKinds.{payload_is}
 
@@ -26,9 +25,9 @@ link_back (frame ws fp lower upper prev n e q i j p d g) k =
     let u : (get_or ws (fp - 1) null).payload / 256 ≡ prev = ap (λ (x : Word). x.payload / 256) w ∙ z in
     omega (arith, u, q, d)
 
-pub frames_framed : {P : Program} {lim : Limits} {r : Regs} {st he : List ℕ} {ws hs : List Word} → Fit lim r
+pub frames_framed : {P : Program} {r : Regs} {st he : List ℕ} {ws hs : List Word} → Fit r
     → Holds r st he ws hs → Smalls ws → Frames P hs ws r.fp → Framed r st
-frames_framed {P} {lim} {r} {st} {he} {ws} f h m g =
+frames_framed {P} {r} {st} {he} {ws} f h m g =
     record {
       back = λ k.
           let e = h.stack.get (r.fp - 1) (omega (arith, k, h.sp, f.fp, f.lp)) in

@@ -23,7 +23,7 @@ use Rattle.engine.specs.Fits.{Fit}
 use Rattle.engine.specs.Blocks.{making, Placed, from_top, from_place}
 use Rattle.engine.specs.Turns.{Bears, Smalls, core, Holds, halt, Buffers, Turned, priced}
 use Rattle.engine.specs.declared.Ending.TheVariants as ending
-use Rattle.engine.specs.declared.regs.Limits.{Limits}
+use Rattle.engine.specs.Limits.{Limits}
 use Rattle.engine.specs.declared.regs.Regs.{Regs}
 use Rattle.engine.specs.declared.regs.Turn.{Turn}
 use Rattle.engine.proofs.After.{built}
@@ -171,7 +171,7 @@ values_end ws i a h = ap (λ (n : ℕ). all is_value (downward ws i n)) (let z :
 
 -- ---- what building leads to
 
-module _ {lim : Limits} {r : Regs} (f : Fit lim r) {st he : List ℕ} {ws hs : List Word} (h : Holds r st he ws hs)
+module _ {r : Regs} (f : Fit r) {st he : List ℕ} {ws hs : List Word} (h : Holds r st he ws hs)
     (wi or : List ℕ) where
   abbrev s : State
   s = core r ws hs wi or false
@@ -192,20 +192,20 @@ module _ {lim : Limits} {r : Regs} (f : Fit lim r) {st he : List ℕ} {ws hs : L
   pub without_sp : (a : ℕ) → r.sp - a ≡ length (without a ws)
   without_sp a = ap (λ (n : ℕ). n - a) h.sp ∙ sym (length_without a ws)
 
-  pub block_few : (cost x a : ℕ) {b : Buffers} {q : Turn} → r.sp - r.lp < a → q ≡ halt r (ending.Fault 1)
+  pub block_few : (cost x a : ℕ) {b : Buffers} {q : Turn} {lim : Limits} → r.sp - r.lp < a → q ≡ halt r (ending.Fault 1)
       → Turned lim r b (priced cost (mk_block x a) s) q b
   unfolding mk_block
   block_few cost x a {b} {q} k e =
-      stops cost lim r b s (fault 1)
+      stops cost _ r b s (fault 1)
       (need_no (leb a (values s)) 1 _
       (λ t. let v : a ≤ r.sp - r.lp = rw (values_are h wi or false) at (leb→le a (values s) t) in omega arith))
       e
 
-  pub block_wrong : (cost x a : ℕ) {b : Buffers} {q : Turn} → a ≤ r.sp - r.lp → all is_value (downward ws 0 a) ≡ false
+  pub block_wrong : (cost x a : ℕ) {b : Buffers} {q : Turn} {lim : Limits} → a ≤ r.sp - r.lp → all is_value (downward ws 0 a) ≡ false
       → q ≡ halt r (ending.Fault 2) → Turned lim r b (priced cost (mk_block x a) s) q b
   unfolding mk_block
   block_wrong cost x a {b} {q} k v e =
-      stops cost lim r b s (fault 2)
+      stops cost _ r b s (fault 2)
       (need_yes (leb a (values s)) 1 _ (le→leb a (values s) (rw (values_are h wi or false) k))
       ∙ need_no (all is_value (downward ws 0 a)) 2 _ (λ t. true≢false (sym (to_true t) ∙ v)))
       e
@@ -237,27 +237,27 @@ module _ {lim : Limits} {r : Regs} (f : Fit lim r) {st he : List ℕ} {ws hs : L
 
   -- ---- taking apart
 
-  pub unpack_few : (cost : ℕ) {b : Buffers} {q : Turn} → r.sp ≤ r.lp → q ≡ halt r (ending.Fault 1)
+  pub unpack_few : (cost : ℕ) {b : Buffers} {q : Turn} {lim : Limits} → r.sp ≤ r.lp → q ≡ halt r (ending.Fault 1)
       → Turned lim r b (priced cost Unpack s) q b
   unfolding Unpack
   unpack_few cost {b} {q} k e =
-      stops cost lim r b s (fault 1)
+      stops cost _ r b s (fault 1)
       (need_no (leb 1 (values s)) 1 _
       (λ t. let v : 1 ≤ r.sp - r.lp = rw (values_are h wi or false) at (leb→le 1 (values s) t) in omega arith))
       e
 
-  unpack_stops : (cost : ℕ) {b : Buffers} {q : Turn} → r.lp < r.sp → is_tuple_or_constr hs (below ws 0) ≡ false
+  unpack_stops : (cost : ℕ) {b : Buffers} {q : Turn} {lim : Limits} → r.lp < r.sp → is_tuple_or_constr hs (below ws 0) ≡ false
       → q ≡ halt r (ending.Fault 2)
       → Turned lim r b (priced cost Unpack s) q b
   unfolding Unpack
   unpack_stops cost {b} {q} k v e =
-      stops cost lim r b s (fault 2)
+      stops cost _ r b s (fault 2)
       (need_yes (leb 1 (values s)) 1 _ (le→leb 1 (values s) (rw (values_are h wi or false) (omega arith)))
       ∙ need_no (is_tuple_or_constr hs (below ws 0)) 2 _ (λ t. true≢false (sym (to_true t) ∙ v)))
       e
 
   module _ (w : ℕ) (e : w ≡ bits (below ws 0)) (k : Small (below ws 0)) (v : r.lp < r.sp) where
-    pub unpack_no_ref : (cost : ℕ) {b : Buffers} {q : Turn} → (w / 2 ^ 28 ≡ 1 → ⊥) → q ≡ halt r (ending.Fault 2)
+    pub unpack_no_ref : (cost : ℕ) {b : Buffers} {q : Turn} {lim : Limits} → (w / 2 ^ 28 ≡ 1 → ⊥) → q ≡ halt r (ending.Fault 2)
         → Turned lim r b (priced cost Unpack s) q b
     unfolding is_tuple_or_constr
     unpack_no_ref cost t d = unpack_stops cost v (rw (ref_no e k t)) d
@@ -274,7 +274,7 @@ module _ {lim : Limits} {r : Regs} (f : Fit lim r) {st he : List ℕ} {ws hs : L
       unfolding is_tuple_or_constr
       kind_is = rw (ref_yes e k t, header_is)
 
-      pub unpack_wrong : (cost : ℕ) {b : Buffers} {q : Turn} → (eqb x tuple_header || eqb (x / 65536) 5) ≡ false
+      pub unpack_wrong : (cost : ℕ) {b : Buffers} {q : Turn} {lim : Limits} → (eqb x tuple_header || eqb (x / 65536) 5) ≡ false
           → q ≡ halt r (ending.Fault 2) → Turned lim r b (priced cost Unpack s) q b
       unpack_wrong cost y d = unpack_stops cost v (kind_is ∙ y) d
 

@@ -26,7 +26,7 @@ use Rattle.engine.specs.Fits.{Fit}
 use Rattle.engine.specs.Copies.{WireFits, Laid, CellHere, ValueHere, BlockHere, Copied, CellPlaced}
 use Rattle.engine.specs.Turns.{Bears, core, Holds, halt, Buffers, Turned, priced}
 use Rattle.engine.specs.declared.Ending.TheVariants as ending
-use Rattle.engine.specs.declared.regs.Limits.{Limits}
+use Rattle.engine.specs.Limits.{Limits}
 use Rattle.engine.specs.declared.regs.Regs.{Regs}
 use Rattle.engine.specs.declared.regs.Turn.{Turn}
 use Rattle.engine.proofs.After.{built}
@@ -560,16 +560,16 @@ module _ {w : List ℕ} {a k : ℕ} (u : Input w a k) where
 
 -- ---- what CopyInput leads to
 
-module _ {lim : Limits} {r : Regs} (f : Fit lim r) {st he : List ℕ} {ws hs : List Word} (h : Holds r st he ws hs)
+module _ {r : Regs} (f : Fit r) {st he : List ℕ} {ws hs : List Word} (h : Holds r st he ws hs)
     (wi or : List ℕ) (a : ℕ) where
   abbrev s : State
   s = core r ws hs wi or false
 
-  pub copy_empty : (cost : ℕ) {b : Buffers} {q : Turn} → get_or wi (65 * a) 0 ≡ 0 → q ≡ halt r (ending.Fault 8)
+  pub copy_empty : (cost : ℕ) {b : Buffers} {q : Turn} {lim : Limits} → get_or wi (65 * a) 0 ≡ 0 → q ≡ halt r (ending.Fault 8)
       → Turned lim r b (priced cost (CopyInput a) s) q b
   unfolding CopyInput is_empty wire_count
   copy_empty cost {b} {q} z e =
-      stops cost lim r b s (fault 8)
+      stops cost _ r b s (fault 8)
       (need_no (not (eqb (get_or wi (65 * a) 0) 0)) 8 _
       (λ t. T_not (eqb (get_or wi (65 * a) 0) 0) t (eqb_of (get_or wi (65 * a) 0) 0 z)))
       e

@@ -20,7 +20,7 @@ use Rattle.engine.specs.Blocks.{making}
 use Rattle.engine.specs.Outcomes.{Applies}
 use Rattle.engine.specs.Attempts.{seeks}
 use Rattle.engine.specs.declared.matching.Pattern.{Pattern}
-use Rattle.engine.specs.declared.regs.Limits.{Limits}
+use Rattle.engine.specs.Limits.{Limits}
 use Rattle.engine.specs.declared.regs.Regs.{Regs}
 use Rattle.engine.specs.declared.regs.Turn.{Turn}
 use Rattle.engine.proofs.Arms.{price_is}

@@ -24,7 +24,7 @@ use Rattle.engine.specs.Turns as turns
 use Rattle.engine.specs.Running.{run_of, Bounds, Going, halt_of, Over}
 use Rattle.engine.specs.declared.Ending.{Ending}
 use Rattle.engine.specs.declared.Ending.TheVariants as ending
-use Rattle.engine.specs.declared.regs.Limits.{Limits}
+use Rattle.engine.specs.Limits.{Limits}
 use Rattle.engine.specs.declared.regs.Regs.{Regs}
 use Rattle.engine.specs.declared.regs.Turn.{Turn}
 

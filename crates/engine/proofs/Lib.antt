@@ -1,5 +1,4 @@
 pub mod After
-pub mod Charges
 pub mod Turning
 pub mod Areas
 pub mod WordKinds

@@ -1,5 +1,5 @@
 -- The loop: from one turn to the next, and to its end.
-use mathlib.Core.Path.{◌≡◌, ap, sym, subst, ◌∙◌}
+use mathlib.Core.Path.{◌≡◌, refl, ap, sym, subst, ◌∙◌}
 use Rattle.std.specs.Prelude.{Option, Some, None}
 use Rattle.std.proofs.lemmas.Option.{none-some}
 use mathlib.Core.List.{List}
@@ -9,11 +9,11 @@ use Rattle.hume.specs.Image.{program}
 use Rattle.hume.specs.Machine.{machine}
 use Rattle.hume.specs.Call.{Given}
 use Rattle.engine.specs.Turns.{Buffers, Meets}
-use Rattle.engine.specs.Running.{Going, Over}
+use Rattle.engine.specs.Running.{Bounds, Going, Over}
 use Rattle.engine.specs.Ready.{Ready}
 use Rattle.engine.specs.Underway.{Underway, calls}
 use Rattle.engine.specs.declared.Ending.{Ending}
-use Rattle.engine.specs.declared.regs.Limits.{Limits}
+use Rattle.engine.specs.Limits.{up_to}
 use Rattle.engine.specs.declared.regs.Regs.{Regs}
 use Rattle.engine.specs.declared.regs.Turn.{Turn}
 use Rattle.engine.proofs.Going.{Next, on, over, turned}
@@ -31,18 +31,20 @@ pub record On (g : Given) (r : Regs) (q : Regs) (b : Buffers) : Type 0 where
   pub going : Going g q b
   pub less : q.left < r.left
 
-module _ {m card : List ℕ} {lim : Limits} {s₀ : Regs} {b₀ : Buffers} (u : Underway m card lim s₀ b₀) {s : Regs} {b : Buffers} (w : Going (calls m card u.limits u.lent) s b)
+module _ {m card : List ℕ} {s₀ : Regs} {b₀ : Buffers} (u : Underway m card s₀ b₀) {s : Regs} {b : Buffers}
+    (w : Going (calls m card u.limits u.lent) s b) (ls : length b.stack ≡ length b₀.stack) (lh : length b.heap ≡ length b₀.heap)
   where
-    -- the step may be taken
-    pub may_step : length b.stack ≡ length b₀.stack → length b.heap ≡ length b₀.heap
-        → Ready (program m) lim s b
-    may_step ls lh =
-        ready (calls m card u.limits u.lent) u.allowed u.bounds w u.typed
-        (ls ∙ u.stack_long) (lh ∙ u.heap_long)
+    -- the areas are as long as the limits
+    bounds : Bounds (calls m card u.limits u.lent) (up_to (length b.stack) (length b.heap))
+    bounds = record { stack = ls ∙ u.bounds.stack; heap = lh ∙ u.bounds.heap; time = u.bounds.time }
 
-    module _ (q : Turn) (b' : Buffers) (t : Meets lim s b (machine (program m) card).act q b') where
+    -- the step may be taken
+    pub may_step : Ready (program m) s b
+    may_step = ready (calls m card u.limits u.lent) u.allowed bounds w u.typed refl refl
+
+    module _ (q : Turn) (b' : Buffers) (t : Meets (up_to (length b.stack) (length b.heap)) s b (machine (program m) card).act q b') where
       next : Next (calls m card u.limits u.lent) s q b'
-      next = turned (calls m card u.limits u.lent) u.allowed u.typed u.bounds w q b' t
+      next = turned (calls m card u.limits u.lent) u.allowed u.typed bounds w q b' t
 
       pub going_on : ((e : Ending) → q.ending ≡ Some e → ⊥) → On (calls m card u.limits u.lent) s q.regs b'
       going_on e = by next

@@ -17,7 +17,7 @@ use Rattle.laws.proofs.Deeds.{need_yes, need_no}
 use Rattle.engine.specs.Fits.{Fit}
 use Rattle.engine.specs.Turns.{Bears, Smalls, core, Holds, halt, Buffers, Turned, priced, pushing}
 use Rattle.engine.specs.declared.Ending.TheVariants as ending
-use Rattle.engine.specs.declared.regs.Limits.{Limits}
+use Rattle.engine.specs.Limits.{Limits}
 use Rattle.engine.specs.declared.regs.Regs.{Regs}
 use Rattle.engine.specs.declared.regs.Turn.{Turn}
 use Rattle.engine.proofs.After.{after}
@@ -36,16 +36,16 @@ abbrev pub framing : Regs → ℕ → Regs
 framing r a =
     after r (r.pc + 1) (r.sp + 1 + a) r.hp (r.sp + 1) (r.sp + 1 + a) r.slp r.rp r.mp r.inp r.rs
 
-module _ {lim : Limits} {r : Regs} (f : Fit lim r) {st he : List ℕ} {ws hs : List Word} (h : Holds r st he ws hs)
+module _ {r : Regs} (f : Fit r) {st he : List ℕ} {ws hs : List Word} (h : Holds r st he ws hs)
     (wi or : List ℕ) where
   abbrev s : State
   s = core r ws hs wi or false
 
-  pub pop_few : (cost a : ℕ) {b : Buffers} {q : Turn} → r.sp - r.lp < a → q ≡ halt r (ending.Fault 1)
+  pub pop_few : (cost a : ℕ) {b : Buffers} {q : Turn} {lim : Limits} → r.sp - r.lp < a → q ≡ halt r (ending.Fault 1)
       → Turned lim r b (priced cost (Pop a) s) q b
   unfolding Pop
   pop_few cost a {b} {q} k e =
-      stops cost lim r b s (fault 1)
+      stops cost _ r b s (fault 1)
       (need_no (leb a (values s)) 1 (stacks s (without a ws))
       (λ t. let v : a ≤ r.sp - r.lp = rw (values_are h wi or false) at (leb→le a (values s) t) in omega arith))
       e
@@ -65,11 +65,11 @@ module _ {lim : Limits} {r : Regs} (f : Fit lim r) {st he : List ℕ} {ws hs : L
       h.hp
       (h.lp ∙ ap (λ (n : ℕ). r.fp + n) (sym (locals_append r.fp ws (v ∷ []) (omega (arith, h.sp, f.fp, f.lp)))))
 
-  pub copy_few : (cost a : ℕ) {b : Buffers} {q : Turn} → r.sp - r.lp ≤ a → q ≡ halt r (ending.Fault 1)
+  pub copy_few : (cost a : ℕ) {b : Buffers} {q : Turn} {lim : Limits} → r.sp - r.lp ≤ a → q ≡ halt r (ending.Fault 1)
       → Turned lim r b (priced cost (Copy a) s) q b
   unfolding Copy
   copy_few cost a {b} {q} k e =
-      stops cost lim r b s (fault 1)
+      stops cost _ r b s (fault 1)
       (need_no (leb (a + 1) (values s)) 1 (stacks s (ws ++ below ws a ∷ []))
       (λ t. let v : a + 1 ≤ r.sp - r.lp = rw (values_are h wi or false) at (leb→le (a + 1) (values s) t) in omega arith))
       e
@@ -86,11 +86,11 @@ module _ {lim : Limits} {r : Regs} (f : Fit lim r) {st he : List ℕ} {ws hs : L
 
   -- ---- Slide
 
-  pub slide_few : (cost a : ℕ) {b : Buffers} {q : Turn} → r.sp - r.lp ≤ a → q ≡ halt r (ending.Fault 1)
+  pub slide_few : (cost a : ℕ) {b : Buffers} {q : Turn} {lim : Limits} → r.sp - r.lp ≤ a → q ≡ halt r (ending.Fault 1)
       → Turned lim r b (priced cost (Slide a) s) q b
   unfolding Slide
   slide_few cost a {b} {q} k e =
-      stops cost lim r b s (fault 1)
+      stops cost _ r b s (fault 1)
       (need_no (leb (a + 1) (values s)) 1 (stacks s (without (a + 1) ws ++ below ws 0 ∷ []))
       (λ t. let v : a + 1 ≤ r.sp - r.lp = rw (values_are h wi or false) at (leb→le (a + 1) (values s) t) in omega arith))
       e
@@ -134,22 +134,22 @@ module _ {lim : Limits} {r : Regs} (f : Fit lim r) {st he : List ℕ} {ws hs : L
 
   -- ---- CopyArg
 
-  pub copy_arg_low : (cost a : ℕ) {b : Buffers} {q : Turn} → r.fp < 5 + a → q ≡ halt r (ending.Fault 3)
+  pub copy_arg_low : (cost a : ℕ) {b : Buffers} {q : Turn} {lim : Limits} → r.fp < 5 + a → q ≡ halt r (ending.Fault 3)
       → Turned lim r b (priced cost (CopyArg a) s) q b
   unfolding CopyArg has_argument
   copy_arg_low cost a {b} {q} k e =
-      stops cost lim r b s (fault 3)
+      stops cost _ r b s (fault 3)
       (need_no (leb (5 + a) r.fp) 3
       (need (is_null (argument s a) || is_value (argument s a)) 2 (stacks s (ws ++ argument s a ∷ [])))
       (λ t. let v = leb→le (5 + a) r.fp t in omega arith))
       e
 
-  pub copy_arg_kind : (cost a : ℕ) {b : Buffers} {q : Turn} → 5 + a ≤ r.fp
+  pub copy_arg_kind : (cost a : ℕ) {b : Buffers} {q : Turn} {lim : Limits} → 5 + a ≤ r.fp
       → (is_null (argument s a) || is_value (argument s a)) ≡ false → q ≡ halt r (ending.Fault 2)
       → Turned lim r b (priced cost (CopyArg a) s) q b
   unfolding CopyArg has_argument
   copy_arg_kind cost a {b} {q} k z e =
-      stops cost lim r b s (fault 2)
+      stops cost _ r b s (fault 2)
       (need_yes (leb (5 + a) r.fp) 3
       (need (is_null (argument s a) || is_value (argument s a)) 2 (stacks s (ws ++ argument s a ∷ [])))
       (le→leb (5 + a) r.fp k)
@@ -187,11 +187,11 @@ module _ {lim : Limits} {r : Regs} (f : Fit lim r) {st he : List ℕ} {ws hs : L
 
   -- ---- CreateFrame
 
-  pub create_few : (cost a : ℕ) {b : Buffers} {q : Turn} → r.sp - r.lp < 3 → q ≡ halt r (ending.Fault 4)
+  pub create_few : (cost a : ℕ) {b : Buffers} {q : Turn} {lim : Limits} → r.sp - r.lp < 3 → q ≡ halt r (ending.Fault 4)
       → Turned lim r b (priced cost (CreateFrame a) s) q b
   unfolding CreateFrame
   create_few cost a {b} {q} k e =
-      stops cost lim r b s (fault 4)
+      stops cost _ r b s (fault 4)
       (need_no (leb 3 (values s)) 4 _
       (λ t. let v : 3 ≤ r.sp - r.lp = rw (values_are h wi or false) at (leb→le 3 (values s) t) in omega arith))
       e
@@ -254,29 +254,29 @@ module _ {lim : Limits} {r : Regs} (f : Fit lim r) {st he : List ℕ} {ws hs : L
   unfolding has_local
   local_yes a k = lt→ltb a (locals r.fp ws) (omega (arith, locals_are))
 
-  pub push_var_none : (cost a : ℕ) {b : Buffers} {q : Turn} → r.lp - r.fp ≤ a → q ≡ halt r (ending.Fault 3)
+  pub push_var_none : (cost a : ℕ) {b : Buffers} {q : Turn} {lim : Limits} → r.lp - r.fp ≤ a → q ≡ halt r (ending.Fault 3)
       → Turned lim r b (priced cost (PushVar a) s) q b
   unfolding PushVar
-  push_var_none cost a {b} {q} k e = stops cost lim r b s (fault 3) (need_no (has_local s a) 3 _ (local_no a k)) e
+  push_var_none cost a {b} {q} k e = stops cost _ r b s (fault 3) (need_no (has_local s a) 3 _ (local_no a k)) e
 
   pub push_var_is : (a : ℕ) → a < r.lp - r.fp → PushVar a s ≡ pushing (get_or ws (r.fp + a) null) s
   unfolding PushVar
   push_var_is a k = need_yes (has_local s a) 3 _ (local_yes a k)
 
-  pub make_var_few : (cost a : ℕ) {b : Buffers} {q : Turn} → r.sp - r.lp < 1 → q ≡ halt r (ending.Fault 1)
+  pub make_var_few : (cost a : ℕ) {b : Buffers} {q : Turn} {lim : Limits} → r.sp - r.lp < 1 → q ≡ halt r (ending.Fault 1)
       → Turned lim r b (priced cost (MakeVar a) s) q b
   unfolding MakeVar
   make_var_few cost a {b} {q} k e =
-      stops cost lim r b s (fault 1)
+      stops cost _ r b s (fault 1)
       (need_no (leb 1 (values s)) 1 _
       (λ t. let v : 1 ≤ r.sp - r.lp = rw (values_are h wi or false) at (leb→le 1 (values s) t) in omega arith))
       e
 
-  pub make_var_none : (cost a : ℕ) {b : Buffers} {q : Turn} → 1 ≤ r.sp - r.lp → r.lp - r.fp ≤ a
+  pub make_var_none : (cost a : ℕ) {b : Buffers} {q : Turn} {lim : Limits} → 1 ≤ r.sp - r.lp → r.lp - r.fp ≤ a
       → q ≡ halt r (ending.Fault 3) → Turned lim r b (priced cost (MakeVar a) s) q b
   unfolding MakeVar
   make_var_none cost a {b} {q} k m e =
-      stops cost lim r b s (fault 3)
+      stops cost _ r b s (fault 3)
       (need_yes (leb 1 (values s)) 1 _ (le→leb 1 (values s) (rw (values_are h wi or false) k))
       ∙ need_no (has_local s a) 3 _ (local_no a m))
       e

@@ -1,15 +1,17 @@
 -- Where a call begins, and what its end leaves in the registers.
 use mathlib.Core.Path.{◌≡◌, refl, sym, ap, ◌∙◌, subst}
 use mathlib.Core.Bool.{false}
-use mathlib.Core.List.{map, List, []}
+use mathlib.Core.List.{map, List, [], ◌++◌}
 use Prim.Native.Nat.{ℕ, zero, suc, ◌-◌, ◌^◌, ◌≤◌, ◌<◌}
 use native.Mathlib.Nat.{not-suc-le-zero}
 use native.Mathlib.Omega.{arith}
-use lib.ListN.{length, get_or}
+use lib.ListN.{length, get_or, length-append, length-drop, get_or-append, take, drop}
+use lib.Seq.{length-take-le}
 use lib.Dec.{T, leb, leb→le}
 use Rattle.limits.specs.Machine.{Run, fresh, Outcome, limited}
 use Rattle.limits.proofs.Kept.{limited_peak}
 use Rattle.hume.specs.Tests.{pick}
+use Rattle.hume.specs.Words.{Word}
 use Rattle.hume.specs.Image.{Program, program, byte}
 use Rattle.hume.specs.Refusals.{length_ok}
 use Rattle.hume.specs.State.{State, locals, sp, hp}
@@ -43,7 +45,6 @@ use Rattle.engine.specs.Reports.{told}
 use Rattle.engine.specs.Endings.{ending, refusal as refusedReport}
 use Rattle.engine.specs.Underway.{Underway, calls}
 use Rattle.engine.specs.declared.Report.{Report}
-use Rattle.engine.specs.declared.regs.Limits.{Limits}
 use Rattle.engine.proofs.Telling.{Wiped, told_over, told_refused}
 use Rattle.engine.specs.declared.Ending.{Ending}
 use Rattle.engine.specs.declared.regs.Regs.{Regs}
@@ -61,15 +62,33 @@ laid_out {m} {starts} l =
 bears_none : (l : List ℕ) → Bears l []
 bears_none l = record { room = omega arith; get = λ i h. absurd (not-suc-le-zero h) }
 
+-- a longer one bears them too
+bears_more : {l : List ℕ} {ws : List Word} (x : List ℕ) → Bears l ws → Bears (l ++ x) ws
+bears_more {l} x b =
+    let n = length-append l x in
+    record {
+      room = omega (arith, n, b.room);
+      get = λ i h. get_or-append l x 0 i (omega (arith, h, b.room)) ∙ b.get i h;
+    }
+
+-- what a part of an area becomes, with the rest of it, is as long as the area
+pub whole_long : (l : List ℕ) (n : ℕ) (k : List ℕ) → n ≤ length l → length k ≡ length (take n l)
+    → length (k ++ drop n l) ≡ length l
+whole_long l n k m e =
+    let x = length-append k (drop n l) in
+    let y = length-drop n l in
+    let z = length-take-le n l m in
+    omega (arith, x, y, z, e)
+
 module _ (g : Given) (a : Allowed g) (y : Typed g) where
   abbrev P : Program
   P = program g.image
 
   -- a run begins
-  pub begun : (pc : ℕ) → pc ≡ P.entry 0
-      → Going g (beginning pc g.limits.time) (buffers g.stack g.heap g.wires g.order)
+  pub begun : (st he : List ℕ) (pc : ℕ) → pc ≡ P.entry 0
+      → Going g (beginning pc g.limits.time) (buffers st he g.wires g.order)
   unfolding outcome locals pick start
-  begun pc e =
+  begun st he pc e =
       let z : g.limits.time - g.limits.time ≡ 0 = omega arith in
       let same : fresh (start P g.wires g.order)
       ≡ run_of g.limits.time (beginning pc g.limits.time) [] [] g.wires g.order false =
@@ -84,7 +103,7 @@ module _ (g : Given) (a : Allowed g) (y : Typed g) where
         ws = [];
         hs = [];
         holds =
-            record { stack = bears_none g.stack; heap = bears_none g.heap; sp = refl; hp = refl; lp = refl };
+            record { stack = bears_none st; heap = bears_none he; sp = refl; hp = refl; lp = refl };
         left = omega arith;
         sp = omega arith;
         hp = omega arith;
@@ -156,6 +175,22 @@ module _ (g : Given) (e : refusal g ≡ 0) (y : Bytes g.image) where
   pub card_fits : CardFits g.card
   card_fits = (allowed g e).card
 
+  pub stack_room : g.limits.stack ≤ length g.stack
+  stack_room = (allowed g e).stack_room
+
+  pub heap_room : g.limits.heap ≤ length g.heap
+  heap_room = (allowed g e).heap_room
+
+  pub stack_part : length (take g.limits.stack g.stack) ≡ g.limits.stack
+  stack_part = length-take-le g.limits.stack g.stack stack_room
+
+  pub heap_part : length (take g.limits.heap g.heap) ≡ g.limits.heap
+  heap_part = length-take-le g.limits.heap g.heap heap_room
+
+  -- as much of each area as its limit allows
+  abbrev part : Buffers
+  part = buffers (take g.limits.stack g.stack) (take g.limits.heap g.heap) g.wires g.order
+
   pub some_ruleset : 0 < (program g.image).rulesets
   some_ruleset = (allowed g e).image.some_ruleset
 
@@ -164,37 +199,58 @@ module _ (g : Given) (e : refusal g ≡ 0) (y : Bytes g.image) where
     typed = record { image = y; wires = z }
 
     -- of an image and a card that are known to be the call's
-    module _ {n prices : List ℕ} (i : (n ≡ g.image) × (prices ≡ g.card)) {lim : Limits} {r : Regs} (pc : ℕ)
-        (q : r ≡ beginning pc g.limits.time) (p : pc ≡ (program n).entry 0) (s : lim.stack ≡ g.limits.stack)
-        (h : lim.heap ≡ g.limits.heap) where
-      under : Underway g.image g.card lim r b
+    module _ {n prices : List ℕ} (i : (n ≡ g.image) × (prices ≡ g.card)) {r : Regs} (pc : ℕ)
+        (q : r ≡ beginning pc g.limits.time) (p : pc ≡ (program n).entry 0) where
+      under : Underway g.image g.card r part
       under =
           record {
             limits = g.limits;
             lent = b;
             allowed = allowed g e;
             typed = typed;
-            bounds = record { stack = s; heap = h; time = t };
+            bounds = record { stack = stack_part; heap = heap_part; time = t };
             going =
-                subst (λ (k : Regs). Going g k b) (sym q)
-                (begun g (allowed g e) typed pc (p ∙ ap (λ (x : List ℕ). (program x).entry 0) i.0));
-            stack_long = refl;
-            heap_long = refl;
+                subst (λ (k : Regs). Going g k part) (sym q)
+                (begun g (allowed g e) typed part.stack part.heap pc (p ∙ ap (λ (x : List ℕ). (program x).entry 0) i.0));
           }
 
-      pub underway : Underway n prices lim r b
+      pub underway : Underway n prices r part
       underway =
-          subst (λ (x : List ℕ). Underway x prices lim r b) (sym i.0)
-          (subst (λ (x : List ℕ). Underway g.image x lim r b) (sym i.1) under)
+          subst (λ (x : List ℕ). Underway x prices r part) (sym i.0)
+          (subst (λ (x : List ℕ). Underway g.image x r part) (sym i.1) under)
 
       -- what the loop leaves, of this call
       pub ran_over : {last : Regs} {d : Ending} {b' : Buffers}
-          → ((u : Underway n prices lim r b) → Over (calls n prices u.limits u.lent) last d b') → Over g last d b'
+          → ((u : Underway n prices r part) → Over (calls n prices u.limits u.lent) last d b') → Over g last d b'
       unfolding under
       ran_over {last} {d} {b'} k =
-          subst (λ (x : List ℕ). (u : Underway g.image x lim r b) → Over (calls g.image x u.limits u.lent) last d b') i.1
-          (subst (λ (x : List ℕ). (u : Underway x prices lim r b) → Over (calls x prices u.limits u.lent) last d b') i.0 k)
+          subst (λ (x : List ℕ). (u : Underway g.image x r part) → Over (calls g.image x u.limits u.lent) last d b') i.1
+          (subst (λ (x : List ℕ). (u : Underway x prices r part) → Over (calls x prices u.limits u.lent) last d b') i.0 k)
           under
+
+      -- of the whole areas too
+      pub ran_whole : {last : Regs} {d : Ending} {b' : Buffers} (x y : List ℕ)
+          → ((u : Underway n prices r part) → Over (calls n prices u.limits u.lent) last d b')
+          → Over g last d (buffers (b'.stack ++ x) (b'.heap ++ y) b'.wires b'.order)
+      ran_whole x y k =
+          let o = ran_over k in
+          record {
+            ws = o.ws;
+            hs = o.hs;
+            holds =
+                record {
+                  stack = bears_more x o.holds.stack;
+                  heap = bears_more y o.holds.heap;
+                  sp = o.holds.sp;
+                  hp = o.holds.hp;
+                  lp = o.holds.lp;
+                };
+            left = o.left;
+            ending = o.ending;
+            done = o.done;
+            is = o.is;
+            same = o.same;
+          }
 
     pub last_small : {r : Regs} {d : Ending} {b' : Buffers} → Over g r d b' → Small g (allowed g e) typed r
     last_small o = end_small g (allowed g e) typed t o

@@ -25,7 +25,7 @@ use Rattle.engine.specs.Fits.{Fit}
 use Rattle.engine.specs.Copies.{Stuck, FirstStuck}
 use Rattle.engine.specs.Turns.{Smalls, plain, core, Holds, halt, Buffers, Turned, priced}
 use Rattle.engine.specs.declared.Ending.TheVariants as ending
-use Rattle.engine.specs.declared.regs.Limits.{Limits}
+use Rattle.engine.specs.Limits.{Limits}
 use Rattle.engine.specs.declared.regs.Regs.{Regs}
 use Rattle.engine.specs.declared.regs.Turn.{Turn}
 use Rattle.engine.proofs.Turning.{Leads, stops, lead_still, values_are, reads_below}
@@ -90,7 +90,7 @@ module _ (P : Program) (s : State) where
 
 -- ---- what they lead to
 
-module _ {lim : Limits} {r : Regs} (f : Fit lim r) {st he : List ℕ} {ws hs : List Word} (h : Holds r st he ws hs)
+module _ {r : Regs} (f : Fit r) {st he : List ℕ} {ws hs : List Word} (h : Holds r st he ws hs)
     (wi or : List ℕ) where
   abbrev s : State
   s = core r ws hs wi or false
@@ -100,11 +100,11 @@ module _ {lim : Limits} {r : Regs} (f : Fit lim r) {st he : List ℕ} {ws hs : L
   consume_leads cost a = lead_wired cost s (stacked r r.sp) refl h.sp h.hp h.lp
 
   module _ (P : Program) (small : Smalls ws) (n : ℕ) (many : P.outputs ≡ n) where
-    pub check_few : (cost : ℕ) {b : Buffers} {q : Turn} → r.sp - r.lp < n → q ≡ halt r (ending.Fault 1)
+    pub check_few : (cost : ℕ) {b : Buffers} {q : Turn} {lim : Limits} → r.sp - r.lp < n → q ≡ halt r (ending.Fault 1)
         → Turned lim r b (priced cost (CheckOutputs P) s) q b
     unfolding CheckOutputs
     check_few cost {b} {q} k e =
-        stops cost lim r b s (fault 1)
+        stops cost _ r b s (fault 1)
         (need_no (leb P.outputs (values s)) 1 _
         (λ t. let v : P.outputs ≤ r.sp - r.lp = rw (values_are h wi or false) at (leb→le P.outputs (values s) t) in
         omega (arith, many)))
@@ -122,11 +122,11 @@ module _ {lim : Limits} {r : Regs} (f : Fit lim r) {st he : List ℕ} {ws hs : L
     unfolding below
     small_below k = small.each (length ws - (k + 1))
 
-    pub check_other : (cost : ℕ) {b : Buffers} {q : Turn} → n ≤ r.sp - r.lp → all is_value (downward ws 0 n) ≡ false
+    pub check_other : (cost : ℕ) {b : Buffers} {q : Turn} {lim : Limits} → n ≤ r.sp - r.lp → all is_value (downward ws 0 n) ≡ false
         → q ≡ halt r (ending.Fault 2) → Turned lim r b (priced cost (CheckOutputs P) s) q b
     unfolding CheckOutputs
     check_other cost {b} {q} k o e =
-        stops cost lim r b s (fault 2)
+        stops cost _ r b s (fault 2)
         (enough k _ ∙ need_no (all is_value (downward ws 0 P.outputs)) 2 _ (λ t. not_so o (rw many at t)))
         e
 
@@ -156,11 +156,11 @@ module _ {lim : Limits} {r : Regs} (f : Fit lim r) {st he : List ℕ} {ws hs : L
           ∙ need_yes (all is_value (downward ws 0 P.outputs)) 2 (checked P s 0 P.outputs) (rw many (of_true o))
           ∙ ap (λ (m : ℕ). checked P s 0 m) many
 
-      pub check_stuck : (cost j : ℕ) {b : Buffers} {q : Turn} → n ≤ r.sp - r.lp → all is_value (downward ws 0 n) ≡ true
+      pub check_stuck : (cost j : ℕ) {b : Buffers} {q : Turn} {lim : Limits} → n ≤ r.sp - r.lp → all is_value (downward ws 0 n) ≡ true
           → FirstStuck st r.sp wi inputs n (Some j) → q ≡ halt r (ending.Blocked j)
           → Turned lim r b (priced cost (CheckOutputs P) s) q b
       check_stuck cost j {b} {q} k o t e =
-          stops cost lim r b s (blocked j)
+          stops cost _ r b s (blocked j)
           (ready k o
           ∙ checked_stuck P s 0 n j (omega arith) (omega (arith, t.0))
           (λ x y z. t.1 x y (holds_stuck x (omega (arith, t.0)) k z)) (stuck_holds j t.0 k t.2))

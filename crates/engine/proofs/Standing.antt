@@ -20,7 +20,7 @@ use Rattle.engine.proofs.Backing.{frames_framed}
 use Rattle.engine.proofs.Granted.{frames_blocks}
 use Rattle.engine.proofs.Writing.{top_sound}
 use Rattle.engine.specs.Running.{Bounds, Going}
-use Rattle.engine.specs.declared.regs.Limits.{Limits}
+use Rattle.engine.specs.Limits.{Limits}
 use Rattle.engine.specs.declared.regs.Regs.{Regs}
 
 -- the type and the payload that 32 bits are
@@ -42,7 +42,7 @@ module _ (g : Given) (a : Allowed g) {lim : Limits} (k : Bounds g lim) {r : Regs
       let s : r.steps ≤ g.limits.time - r.left = w.ranged.steps in
       omega (arith, k.time)
 
-  pub fits : Fit lim r
+  pub fits : Fit r
   fits =
       let i = a.image in
       let s = w.sound in
@@ -52,11 +52,9 @@ module _ (g : Given) (a : Allowed g) {lim : Limits} (k : Bounds g lim) {r : Regs
       let p : r.inp ≤ r.steps = w.ranged.inp in
       let c : (program g.image).count r.rs ≤ 16 = i.rules r.rs s.rs in
       record {
-        stack_cap = omega (arith, k.stack, a.stack_cap);
-        heap_cap = omega (arith, k.heap, a.heap_cap);
         pc = omega (arith, s.pc, i.size);
-        sp = omega (arith, k.stack, w.sp);
-        hp = omega (arith, k.heap, w.hp);
+        sp = omega (arith, a.stack_cap, w.sp);
+        hp = omega (arith, a.heap_cap, w.hp);
         fp = omega (arith, h.lp);
         lp = omega (arith, h.lp, h.sp, frame_room);
         slp = w.ranged.slp;
@@ -108,15 +106,14 @@ module _ (g : Given) (a : Allowed g) {lim : Limits} (k : Bounds g lim) {r : Regs
       }
 
   -- a Tuple, Constr or Exn that the stack refers to has its fields below hp, the top value is held by the heap, and a frame has its link
-  pub ready : Typed g → length b.stack ≡ length g.stack → length b.heap ≡ length g.heap → Ready (program g.image) lim r b
+  pub ready : Typed g → length b.stack ≡ lim.stack → length b.heap ≡ lim.heap → Ready (program g.image) r b
   ready y ls lh =
       let s = w.sound in
       let small : Smalls w.ws = record { each = w.ranged.stack } in
       let smalls : Smalls w.hs = record { each = w.ranged.heap } in
       record {
         fit = fits;
-        stack_room = omega (arith, k.stack, a.stack_room, ls);
-        heap_room = omega (arith, k.heap, a.heap_room, lh);
+        within = record { stack = omega (arith, k.stack, ls, w.sp); heap = omega (arith, k.heap, lh, w.hp) };
         pc = s.pc;
         rs = s.rs;
         refs = refs;

@@ -27,7 +27,7 @@ use Rattle.engine.specs.Frames.{Framed, framed}
 use Rattle.engine.specs.Turns.{Bears, Smalls, core, Holds, halt, Charging, Buffers, buffers, Turned, went, priced}
 use Rattle.engine.specs.Turns as turned
 use Rattle.engine.specs.declared.Ending.TheVariants as ending
-use Rattle.engine.specs.declared.regs.Limits.{Limits}
+use Rattle.engine.specs.Limits.{Limits}
 use Rattle.engine.specs.declared.regs.Regs.{Regs}
 use Rattle.engine.specs.declared.regs.Turn.{Turn}
 use Rattle.engine.proofs.After.{after}
@@ -122,7 +122,7 @@ locals_read l fp e ws b k =
     (low_byte (get_or ws (fp - 1) null) (b.get (fp - 1) m)
     ∙ sym (pick_false (eqb fp 0) 0 ((get_or ws (fp - 1) null).payload % 256) (λ t. e (eqb→eq fp 0 t))))
 
-module _ {lim : Limits} {r : Regs} (f : Fit lim r) {st he : List ℕ} {ws hs : List Word} (h : Holds r st he ws hs)
+module _ {r : Regs} (f : Fit r) {st he : List ℕ} {ws hs : List Word} (h : Holds r st he ws hs)
     (wi or : List ℕ) where
   abbrev s : State
   s = core r ws hs wi or false
@@ -137,7 +137,7 @@ module _ {lim : Limits} {r : Regs} (f : Fit lim r) {st he : List ℕ} {ws hs : L
   unfolding Schedule charged
   schedule_is cost = let z : cost + 0 ≡ cost = omega arith in rw (append-nil, z)
 
-  pub schedule_turned : (cost : ℕ) {q : Turn} → Charging lim r cost r q
+  pub schedule_turned : (cost : ℕ) {q : Turn} {lim : Limits} → Charging lim r cost r q
       → Turned lim r (buffers st he wi or) (priced cost Schedule s) (closed q) (buffers st he wi or)
   schedule_turned cost (turned.late p e) =
       turned.late cost (core r ws hs wi or true) (schedule_is cost) p (ap closed e) refl
@@ -159,20 +159,20 @@ module _ {lim : Limits} {r : Regs} (f : Fit lim r) {st he : List ℕ} {ws hs : L
 
   -- ---- If
 
-  pub if_few : (cost to : ℕ) {b : Buffers} {q : Turn} → r.sp - r.lp < 1 → q ≡ halt r (ending.Fault 1)
+  pub if_few : (cost to : ℕ) {b : Buffers} {q : Turn} {lim : Limits} → r.sp - r.lp < 1 → q ≡ halt r (ending.Fault 1)
       → Turned lim r b (priced cost (If to) s) q b
   unfolding If
   if_few cost to {b} {q} k e =
-      stops cost lim r b s (fault 1)
+      stops cost _ r b s (fault 1)
       (need_no (leb 1 (values s)) 1 _
       (λ t. let v : 1 ≤ r.sp - r.lp = rw (values_are h wi or false) at (leb→le 1 (values s) t) in omega arith))
       e
 
-  if_kind : (cost to : ℕ) {b : Buffers} {q : Turn} → 1 ≤ r.sp - r.lp → is_cell hs (below ws 0) bool_header ≡ false
+  if_kind : (cost to : ℕ) {b : Buffers} {q : Turn} {lim : Limits} → 1 ≤ r.sp - r.lp → is_cell hs (below ws 0) bool_header ≡ false
       → q ≡ halt r (ending.Fault 2) → Turned lim r b (priced cost (If to) s) q b
   unfolding If
   if_kind cost to {b} {q} k z e =
-      stops cost lim r b s (fault 2)
+      stops cost _ r b s (fault 2)
       (need_yes (leb 1 (values s)) 1 _ (le→leb 1 (values s) (rw (values_are h wi or false) k))
       ∙ need_no (is_cell hs (below ws 0) bool_header) 2 _ (not_so z))
       e
@@ -185,7 +185,7 @@ module _ {lim : Limits} {r : Regs} (f : Fit lim r) {st he : List ℕ} {ws hs : L
     top_is : n ≡ bits (below ws 0)
     top_is = reads_below h 0 n (omega arith) e
 
-    pub if_no_ref : (cost to : ℕ) {b : Buffers} {q : Turn} → (n / 2 ^ 28 ≡ 1 → ⊥) → q ≡ halt r (ending.Fault 2)
+    pub if_no_ref : (cost to : ℕ) {b : Buffers} {q : Turn} {lim : Limits} → (n / 2 ^ 28 ≡ 1 → ⊥) → q ≡ halt r (ending.Fault 2)
         → Turned lim r b (priced cost (If to) s) q b
     if_no_ref cost to z g = if_kind cost to k (cell_no top_is (small_top m) hs bool_header z) g
 
@@ -200,7 +200,7 @@ module _ {lim : Limits} {r : Regs} (f : Fit lim r) {st he : List ℕ} {ws hs : L
           let i = ref_inside a z in
           cell_is_lem top_is (small_top m) bool_header z h.heap (omega (arith, h.hp, i))
 
-      pub if_no_bool : (cost to : ℕ) {b : Buffers} {q : Turn} → (get_or he (n % 2 ^ 28) 0 ≡ 65536 → ⊥)
+      pub if_no_bool : (cost to : ℕ) {b : Buffers} {q : Turn} {lim : Limits} → (get_or he (n % 2 ^ 28) 0 ≡ 65536 → ⊥)
           → q ≡ halt r (ending.Fault 2) → Turned lim r b (priced cost (If to) s) q b
       if_no_bool cost to y g = if_kind cost to k (bool_test ∙ ne_eqb (get_or he (n % 2 ^ 28) 0) 65536 y) g
 
@@ -296,11 +296,11 @@ module _ {lim : Limits} {r : Regs} (f : Fit lim r) {st he : List ℕ} {ws hs : L
 
   -- ---- Return
 
-  pub return_few : (cost : ℕ) {b : Buffers} {q : Turn} → r.sp - r.lp < 1 → q ≡ halt r (ending.Fault 1)
+  pub return_few : (cost : ℕ) {b : Buffers} {q : Turn} {lim : Limits} → r.sp - r.lp < 1 → q ≡ halt r (ending.Fault 1)
       → Turned lim r b (priced cost Return s) q b
   unfolding Return
   return_few cost {b} {q} k e =
-      stops cost lim r b s (fault 1)
+      stops cost _ r b s (fault 1)
       (need_no (leb 1 (values s)) 1 _
       (λ t. let v : 1 ≤ r.sp - r.lp = rw (values_are h wi or false) at (leb→le 1 (values s) t) in omega arith))
       e
@@ -330,11 +330,11 @@ module _ {lim : Limits} {r : Regs} (f : Fit lim r) {st he : List ℕ} {ws hs : L
             let d : 4 ≤ r.fp = omega arith in
             rw (ne_eqb r.fp 0 z, le-leb 4 r.fp d, type_at 4 d (omega arith) (omega arith), type_at 3 d (omega arith) (omega arith), type_at 2 d (omega arith) (omega arith), type_at 1 d (omega arith) (omega arith)) refl
 
-    pub return_bad : (cost : ℕ) {b : Buffers} {q : Turn} → 1 ≤ r.sp - r.lp → Framed r st → framed st r.fp ≡ false
+    pub return_bad : (cost : ℕ) {b : Buffers} {q : Turn} {lim : Limits} → 1 ≤ r.sp - r.lp → Framed r st → framed st r.fp ≡ false
         → q ≡ halt r (ending.Fault 4) → Turned lim r b (priced cost Return s) q b
     unfolding Return
     return_bad cost {b} {q} k g z e =
-        stops cost lim r b s (fault 4)
+        stops cost _ r b s (fault 4)
         (need_yes (leb 1 (values s)) 1 _ (le→leb 1 (values s) (rw (values_are h wi or false) k))
         ∙ need_no (frame_ok s) 4 _ (not_so (frame_test g ∙ z)))
         e

@@ -26,7 +26,7 @@ use Rattle.engine.specs.Turns.{Bears, plain, core, Holds, halt, Buffers, Turned,
 use Rattle.engine.specs.Attempts.{seeks_cell, seeks, tallied, concludes, Attempted, faulty, tries, Attempts}
 use Rattle.engine.specs.declared.Ending.{Ending}
 use Rattle.engine.specs.declared.Ending.TheVariants as ending
-use Rattle.engine.specs.declared.regs.Limits.{Limits}
+use Rattle.engine.specs.Limits.{Limits}
 use Rattle.engine.specs.declared.regs.Regs.{Regs}
 use Rattle.engine.specs.declared.regs.Turn.{Turn}
 use Rattle.engine.specs.declared.matching.Attempt.{Attempt}
@@ -146,7 +146,7 @@ module _ {r : Regs} {st he : List ℕ} {ws hs : List Word} (h : Holds r st he ws
   unfolding lp
   lp_is = sym h.lp
 
-  module _ {lim : Limits} (f : Fit lim r) where
+  module _ (f : Fit r) where
     room : r.lp ≤ length ws
     room =
         let a : r.lp ≤ r.sp = f.lp in

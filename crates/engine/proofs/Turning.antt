@@ -11,7 +11,7 @@ use Rattle.hume.specs.State.{State, End, Deed, leaving, locals, values, lp, belo
 use Rattle.hume.specs.Machine.{charged}
 use Rattle.engine.specs.Turns.{Bears, plain, core, Holds, end_of, halt, Charging, goes_on, Buffers, Turned, ended, went}
 use Rattle.engine.specs.Turns as turns
-use Rattle.engine.specs.declared.regs.Limits.{Limits}
+use Rattle.engine.specs.Limits.{Limits}
 use Rattle.engine.specs.declared.regs.Regs.{Regs}
 use Rattle.engine.specs.declared.regs.Turn.{Turn}
 

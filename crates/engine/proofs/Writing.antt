@@ -29,7 +29,7 @@ use Rattle.engine.specs.Copies.{WireFits, Readable, Spread, Offered, unless, roo
 use Rattle.engine.specs.Turns.{Smalls, core, Holds, halt, Buffers, buffers, Turned, priced}
 use Rattle.engine.specs.declared.Ending.{Ending}
 use Rattle.engine.specs.declared.Ending.TheVariants as ending
-use Rattle.engine.specs.declared.regs.Limits.{Limits}
+use Rattle.engine.specs.Limits.{Limits}
 use Rattle.engine.specs.declared.regs.Regs.{Regs}
 use Rattle.engine.specs.declared.regs.Turn.{Turn}
 use Rattle.engine.proofs.Turning.{Leads, stops, values_are, reads_below}
@@ -342,7 +342,7 @@ pub still : {lim : Limits} {r : Regs} {b : Buffers} {o : Act State End} {q : Tur
     → Turned lim r b o q (buffers st he w or) → Turned lim r b o q (buffers st he w' or)
 still e t = rw e t
 
-module _ {lim : Limits} {r : Regs} (f : Fit lim r) {st he : List ℕ} {ws hs : List Word} (h : Holds r st he ws hs)
+module _ {r : Regs} (f : Fit r) {st he : List ℕ} {ws hs : List Word} (h : Holds r st he ws hs)
     (wi or : List ℕ) where
   abbrev s : State
   s = core r ws hs wi or false
@@ -358,11 +358,11 @@ module _ {lim : Limits} {r : Regs} (f : Fit lim r) {st he : List ℕ} {ws hs : L
       ∙ ap (λ (n : ℕ). r.fp + n) (sym (locals_take r.fp (length ws - 1) ws (omega (arith, h.sp, f.fp))))
 
   module _ (P : Program) (a : ℕ) where
-    pub write_few : (cost : ℕ) {b : Buffers} {q : Turn} → r.sp ≤ r.lp → q ≡ halt r (ending.Fault 1)
+    pub write_few : (cost : ℕ) {b : Buffers} {q : Turn} {lim : Limits} → r.sp ≤ r.lp → q ≡ halt r (ending.Fault 1)
         → Turned lim r b (priced cost (Write P a) s) q b
     unfolding Write
     write_few cost {b} {q} k e =
-        stops cost lim r b s (fault 1)
+        stops cost _ r b s (fault 1)
         (need_no (leb 1 (values s)) 1 _
         (λ t. let v : 1 ≤ r.sp - r.lp = rw (values_are h wi or false) at (leb→le 1 (values s) t) in omega arith))
         e
@@ -392,11 +392,11 @@ module _ {lim : Limits} {r : Regs} (f : Fit lim r) {st he : List ℕ} {ws hs : L
             (tests_as (is_value v) (is_none v) (eqb (get_or wi (65 * (inputs + a)) 0) 0) (leb (length (spread hs v)) 64)
             (length (spread hs v)) (spread_some hs v) leaves wi (set_wire wi (inputs + a) (spread hs v)))
 
-        pub write_stops : (cost : ℕ) {x : Ending} {b : Buffers} {q : Turn} → t ≡ Err x → q ≡ halt r x
+        pub write_stops : (cost : ℕ) {x : Ending} {b : Buffers} {q : Turn} {lim : Limits} → t ≡ Err x → q ≡ halt r x
             → Turned lim r b (priced cost (Write P a) s) q b
         write_stops cost {x} {b} {q} z g =
             let d : (k : ℕ) × (x ≡ ending.Fault k) × (Write P a s ≡ ends (fault k)) = rw z at write_does in
-            stops cost lim r b s (fault d.0) d.2 (g ∙ ap (halt r) d.1)
+            stops cost _ r b s (fault d.0) d.2 (g ∙ ap (halt r) d.1)
 
         pub write_leads : (cost : ℕ) {n : ℕ} → t ≡ Ok n
             → Leads cost (priced cost (Write P a) s) (stacked r (r.sp - 1)) (without 1 ws) hs
@@ -432,8 +432,8 @@ frames_plain {P} {hs} (Frames.frame ws fp lower upper prev n e b a c each d g) k
     subst (λ (w : Word). Plain P hs w) (sym z) (each.each j)
 
 -- what Write asks of the word on top
-pub top_sound : {P : Program} {lim : Limits} {r : Regs} {st he wi or : List ℕ} {ws hs : List Word} {d : Bool}
-    → Sound P (core r ws hs wi or d) → Fit lim r → Holds r st he ws hs → Smalls ws → Smalls hs → TopHeld r st he
+pub top_sound : {P : Program} {r : Regs} {st he wi or : List ℕ} {ws hs : List Word} {d : Bool}
+    → Sound P (core r ws hs wi or d) → Fit r → Holds r st he ws hs → Smalls ws → Smalls hs → TopHeld r st he
 top_sound s f h m n =
     top_held h n m
     (λ l t. plain_held (frames_plain s.frames 0 (let a = f.fp in let b = h.sp in omega arith)) t)

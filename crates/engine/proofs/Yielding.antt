@@ -31,7 +31,7 @@ use Rattle.engine.specs.Blocks.{making}
 use Rattle.engine.specs.Outcomes.{Outcome, valued, wrongly, raised, given, tried, kept, quotient, whole, cutting}
 use Rattle.engine.specs.Outcomes.{operands, results, throws, troubled, dealt, Deals, Fair, cycle_table, Handled}
 use Rattle.engine.specs.declared.Ending.TheVariants as ending
-use Rattle.engine.specs.declared.regs.Limits.{Limits}
+use Rattle.engine.specs.Limits.{Limits}
 use Rattle.engine.specs.declared.regs.Regs.{Regs}
 use Rattle.engine.specs.declared.regs.Turn.{Turn}
 use Rattle.engine.specs.declared.prims.Cell.{Cell}
@@ -461,7 +461,7 @@ bears_exn l hs e w p m b d q h =
 
 module _ {r : Regs} {st he : List ℕ} {ws hs : List Word} (h : Holds r st he ws hs) (wi or : List ℕ) where
   -- a result in the place of the operands
-  pub give_leads : {lim : Limits} (f : Fit lim r) (cost t k low x y : ℕ) → r.lp ≤ low → low ≤ r.sp
+  pub give_leads : (f : Fit r) (cost t k low x y : ℕ) → r.lp ≤ low → low ≤ r.sp
       → cost ≡ t + k
       → Leads cost (priced t (results k low x y) (core r ws hs wi or false)) (built r (low + 1) (r.hp + 2)) (take low ws ++ ref (length hs) ∷ []) (hs ++ raw x ∷ raw y ∷ []) wi or
   give_leads f cost t k low x y l m e =

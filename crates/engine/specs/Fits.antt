@@ -7,15 +7,12 @@ use Rattle.gate.specs.declared.image.Start.{Start}
 use Rattle.gate.specs.Parts.{start_at}
 use Rattle.hume.specs.Image.{Program, program, code_at, ruleset_at, order_at}
 use Rattle.laws.specs.Accepted.{Handler, absent, present, Bytes, Accepted}
-use Rattle.engine.specs.declared.regs.Limits.{Limits}
 use Rattle.engine.specs.declared.regs.Regs.{Regs}
 
-pub record Fit (lim : Limits) (r : Regs) : Type 0 where
-  pub stack_cap : lim.stack ≤ 4096
-  pub heap_cap : lim.heap ≤ 16384
+pub record Fit (r : Regs) : Type 0 where
   pub pc : r.pc < 4096
-  pub sp : r.sp ≤ lim.stack
-  pub hp : r.hp ≤ lim.heap
+  pub sp : r.sp ≤ 4096
+  pub hp : r.hp ≤ 16384
   pub fp : r.fp ≤ r.lp
   pub lp : r.lp ≤ r.sp
   pub slp : r.slp ≤ 4097

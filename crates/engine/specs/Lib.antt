@@ -1,3 +1,4 @@
+pub mod Limits
 pub mod Turns
 pub mod Fits
 pub mod Running

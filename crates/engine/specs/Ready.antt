@@ -1,5 +1,5 @@
 -- What the step needs of the registers and the buffers of an image's program: it holds between any two turns of a run.
-use Rattle.std.specs.Prelude.{◌≤◌, ◌<◌, length}
+use Rattle.std.specs.Prelude.{◌<◌, length}
 use Rattle.hume.specs.Image.{Program}
 use Rattle.laws.specs.Accepted.{OrderFits, WiresFit}
 use Rattle.engine.specs.Turns.{Buffers}
@@ -7,13 +7,12 @@ use Rattle.engine.specs.Fits.{Fit, Refs}
 use Rattle.engine.specs.Frames.{Framed}
 use Rattle.engine.specs.Blocks.{Blocks}
 use Rattle.engine.specs.Copies.{TopHeld}
-use Rattle.engine.specs.declared.regs.Limits.{Limits}
+use Rattle.engine.specs.Limits.{up_to, Within}
 use Rattle.engine.specs.declared.regs.Regs.{Regs}
 
-pub record Ready (P : Program) (lim : Limits) (r : Regs) (b : Buffers) : Type 0 where
-  pub fit : Fit lim r
-  pub stack_room : lim.stack ≤ length b.stack
-  pub heap_room : lim.heap ≤ length b.heap
+pub record Ready (P : Program) (r : Regs) (b : Buffers) : Type 0 where
+  pub fit : Fit r
+  pub within : Within (up_to (length b.stack) (length b.heap)) r
   pub pc : r.pc < P.size
   pub rs : r.rs < P.rulesets
   pub refs : Refs r b.stack

@@ -11,7 +11,7 @@ use Rattle.reach.specs.Demands.{unlimited}
 use Rattle.engine.specs.Turns.{core, Holds, Buffers, end_of}
 use Rattle.engine.specs.declared.Ending.{Ending}
 use Rattle.engine.specs.declared.Ending.TheVariants as ending
-use Rattle.engine.specs.declared.regs.Limits.{Limits}
+use Rattle.engine.specs.Limits.{Limits}
 use Rattle.engine.specs.declared.regs.Regs.{Regs}
 
 -- the run of the machine that the registers stand for, of T time in all

@@ -8,7 +8,7 @@ use Rattle.hume.specs.Machine.{charged}
 use Rattle.laws.specs.Sizes.{Small}
 use Rattle.engine.specs.declared.Ending.{Ending}
 use Rattle.engine.specs.declared.Ending.TheVariants as ending
-use Rattle.engine.specs.declared.regs.Limits.{Limits}
+use Rattle.engine.specs.Limits.{Limits}
 use Rattle.engine.specs.declared.regs.Regs.{Regs}
 use Rattle.engine.specs.declared.regs.Turn.{Turn}
 

@@ -1,11 +1,11 @@
 -- A call that is under way in the code: which call it is, and that its run stands here.
-use Rattle.std.specs.Prelude.{◌≡◌, List, ℕ, length}
+use Rattle.std.specs.Prelude.{List, ℕ, length}
 use Rattle.limits.specs.Machine.{Limits as Bound}
 use Rattle.hume.specs.Call.{Given}
 use Rattle.reach.specs.Demands.{Allowed, Typed}
 use Rattle.engine.specs.Turns.{Buffers}
 use Rattle.engine.specs.Running.{Bounds, Going}
-use Rattle.engine.specs.declared.regs.Limits.{Limits}
+use Rattle.engine.specs.Limits.{up_to}
 use Rattle.engine.specs.declared.regs.Regs.{Regs}
 
 -- a call of this image and card, with the buffers as they were lent
@@ -21,12 +21,10 @@ calls m card L b =
       order = b.order;
     }
 
-pub record Underway (m card : List ℕ) (lim : Limits) (r : Regs) (b : Buffers) : Type 0 where
+pub record Underway (m card : List ℕ) (r : Regs) (b : Buffers) : Type 0 where
   pub limits : Bound
   pub lent : Buffers
   pub allowed : Allowed (calls m card limits lent)
   pub typed : Typed (calls m card limits lent)
-  pub bounds : Bounds (calls m card limits lent) lim
+  pub bounds : Bounds (calls m card limits lent) (up_to (length b.stack) (length b.heap))
   pub going : Going (calls m card limits lent) r b
-  pub stack_long : length b.stack ≡ length lent.stack
-  pub heap_long : length b.heap ≡ length lent.heap

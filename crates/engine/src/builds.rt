@@ -4,80 +4,76 @@ ghost use Rattle.hume.specs.Words.{Word, is_value, tuple_header};
 ghost use Rattle.hume.specs.Tests.{all};
 ghost use Rattle.hume.specs.State.{downward};
 ghost use Rattle.hume.specs.Instructions.{mk_block, Unpack};
+ghost use Rattle.engine.specs.Limits.{Within, up_to};
 ghost use Rattle.engine.specs.Turns.{Bears, Smalls, Meets, priced, buffers};
 ghost use Rattle.engine.specs.Fits.{Fit, Refs};
 ghost use Rattle.engine.specs.Blocks.{Blocks, making, Placed, from_top, from_place};
 
 use super::Ending;
-use super::regs::{Limits, Regs, Turn};
+use super::regs::{Regs, Turn};
 use super::words::is_value;
 
 impl Regs {
     // "1 MkBool c, 2 MkInt c (two's complement), 3 MkFloat c (bits)" [+1]: a header and a payload.
     pub(crate) fn mk_atom(
         self,
-        lim: Limits,
         cost: usize,
         h: u32,
         c: u32,
         stack: &mut [u32],
         heap: &mut [u32],
     ) -> Turn
-        requires fit { Fit lim self }
-        requires stack_in_bounds { lim.stack ≤ length stack.old }
-        requires heap_in_bounds { lim.heap ≤ length heap.old }
-        ensures { (wi or : List ℕ) → Meets lim self (buffers stack.old heap.old wi or) (priced cost (making h c)) result (buffers stack.new heap.new wi or) }
+        requires fit { Fit self }
+        requires within { Within (up_to (length stack.old) (length heap.old)) self }
+        ensures { (wi or : List ℕ) → Meets (up_to (length stack.old) (length heap.old)) self (buffers stack.old heap.old wi or) (priced cost (making h c)) result (buffers stack.new heap.new wi or) }
     {
-        self.give(lim, cost, self.sp, h, c, stack, heap)
+        self.give(cost, self.sp, h, c, stack, heap)
     }
 
     // "5 MkTuple a, 6 MkCon a fields, tag b [1-a]: field 0 is the top word; each field a reference or None."
     pub(crate) fn mk_block(
         self,
-        lim: Limits,
         cost: usize,
         h: u32,
-        a: usize,
+        a: u8,
         stack: &mut [u32],
         heap: &mut [u32],
     ) -> Turn
-        requires fit { Fit lim self }
-        requires stack_in_bounds { lim.stack ≤ length stack.old }
-        requires heap_in_bounds { lim.heap ≤ length heap.old }
-        requires a_bound { a < 256 }
-        ensures { (wi or : List ℕ) → Meets lim self (buffers stack.old heap.old wi or) (priced cost (mk_block h a)) result (buffers stack.new heap.new wi or) }
+        requires fit { Fit self }
+        requires within { Within (up_to (length stack.old) (length heap.old)) self }
+        ensures { (wi or : List ℕ) → Meets (up_to (length stack.old) (length heap.old)) self (buffers stack.old heap.old wi or) (priced cost (mk_block h a)) result (buffers stack.new heap.new wi or) }
     {
+        let n = a as usize;
         let sp = self.sp;
         let hp = self.hp;
-        if sp - self.lp < a {
+        if sp - self.lp < n {
             return self.halt(Ending::Fault(1));
         }
-        if !all_values(stack, sp, a) {
+        if !all_values(stack, sp, n) {
             return self.halt(Ending::Fault(2));
         }
-        let low = sp - a;
+        let low = sp - n;
         let mut next = self;
         next.sp = low + 1;
-        next.hp = hp + 2 + a;
+        next.hp = hp + 2 + n;
         next.pc = self.pc + 1;
-        let turn = self.charge(lim, cost, next);
+        let turn = self.charge(cost, next, Some(stack.len()), Some(heap.len()));
         if turn.goes_on() {
             heap[hp] = h;
             heap[hp + 1] = a as u32;
-            put_fields(stack, sp, heap, hp + 2, a);
+            put_fields(stack, sp, heap, hp + 2, n);
             stack[low] = 268435456 + hp as u32;
         }
         turn
     }
 
     // "33 Unpack: pops a Tuple or Constr, pushes field 0 first."
-    pub(crate) fn unpack(self, lim: Limits, cost: usize, stack: &mut [u32], heap: &[u32]) -> Turn
-        requires fit { Fit lim self }
-        requires stack_in_bounds { lim.stack ≤ length stack.old }
-        requires heap_in_bounds { lim.heap ≤ length heap.now }
+    pub(crate) fn unpack(self, cost: usize, stack: &mut [u32], heap: &[u32]) -> Turn
+        requires fit { Fit self }
+        requires within { Within (up_to (length stack.old) (length heap.now)) self }
         requires refs { Refs self stack.old }
         requires blocks { Blocks self stack.old heap.now }
-        ensures { (wi or : List ℕ) → Meets lim self (buffers stack.old heap.now wi or) (priced cost Unpack) result (buffers stack.new heap.now wi or) }
+        ensures { (wi or : List ℕ) → Meets (up_to (length stack.old) (length heap.now)) self (buffers stack.old heap.now wi or) (priced cost Unpack) result (buffers stack.new heap.now wi or) }
     {
         let sp = self.sp;
         if sp <= self.lp {
@@ -97,7 +93,7 @@ impl Regs {
         let mut next = self;
         next.sp = low + n;
         next.pc = self.pc + 1;
-        let turn = self.charge_depth(lim, cost, next);
+        let turn = self.charge(cost, next, Some(stack.len()), None);
         if turn.goes_on() {
             put_words(heap, at + 2, stack, low, n);
         }

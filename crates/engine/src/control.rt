@@ -4,12 +4,13 @@ ghost use Rattle.hume.specs.Words.{Word};
 ghost use Rattle.hume.specs.Image.{Program};
 ghost use Rattle.hume.specs.State.{locals};
 ghost use Rattle.hume.specs.Instructions.{Goto, If, Call, Return, Schedule};
+ghost use Rattle.engine.specs.Limits.{Limits, Within, up_to};
 ghost use Rattle.engine.specs.Turns.{Bears, Meets, priced, buffers};
 ghost use Rattle.engine.specs.Fits.{Fit, Refs};
 ghost use Rattle.engine.specs.Frames.{Framed, framed};
 
 use super::Ending;
-use super::regs::{Limits, Regs, Turn};
+use super::regs::{Regs, Turn};
 
 // "Return where a saved word has the wrong type or fp is 0". A frame stands above four saved words, so fp is 0 where it is below 4.
 fn has_frame(stack: &[u32], fp: usize) -> bool
@@ -44,21 +45,21 @@ fn locals_end(stack: &[u32], fp: usize) -> usize
 
 impl Regs {
     // "15 Goto b"
-    pub(crate) fn goto(self, lim: Limits, cost: usize, b: usize) -> Turn
-        requires { Fit lim self }
-        ensures { (st he wi or : List ℕ) → Meets lim self (buffers st he wi or) (priced cost (Goto b)) result (buffers st he wi or) }
+    pub(crate) fn goto(self, cost: usize, b: u16) -> Turn
+        requires { Fit self }
+        ensures { (lim : Limits) (st he wi or : List ℕ) → Within lim self → Meets lim self (buffers st he wi or) (priced cost (Goto b)) result (buffers st he wi or) }
     {
         let mut next = self;
-        next.pc = b;
-        self.charge_time(lim, cost, next)
+        next.pc = b as usize;
+        self.charge(cost, next, None, None)
     }
 
     // "40 Schedule: finished"; "Schedule is charged and pc stays on it."
-    pub(crate) fn schedule(self, lim: Limits, cost: usize) -> Turn
-        requires { Fit lim self }
-        ensures { (st he wi or : List ℕ) → Meets lim self (buffers st he wi or) (priced cost Schedule) result (buffers st he wi or) }
+    pub(crate) fn schedule(self, cost: usize) -> Turn
+        requires { Fit self }
+        ensures { (lim : Limits) (st he wi or : List ℕ) → Within lim self → Meets lim self (buffers st he wi or) (priced cost Schedule) result (buffers st he wi or) }
     {
-        let turn = self.charge_time(lim, cost, self);
+        let turn = self.charge(cost, self, None, None);
         let ending = turn.ending.unwrap_or(Ending::Finished);
         Turn {
             regs: turn.regs,
@@ -67,19 +68,11 @@ impl Regs {
     }
 
     // "16 If b [-1] jumps on true"
-    pub(crate) fn if_true(
-        self,
-        lim: Limits,
-        cost: usize,
-        b: usize,
-        stack: &[u32],
-        heap: &[u32],
-    ) -> Turn
-        requires fit { Fit lim self }
-        requires stack_in_bounds { lim.stack ≤ length stack.now }
-        requires heap_in_bounds { lim.heap ≤ length heap.now }
+    pub(crate) fn if_true(self, cost: usize, b: u16, stack: &[u32], heap: &[u32]) -> Turn
+        requires fit { Fit self }
+        requires within { Within (up_to (length stack.now) (length heap.now)) self }
         requires refs { Refs self stack.now }
-        ensures { (wi or : List ℕ) → Meets lim self (buffers stack.now heap.now wi or) (priced cost (If b)) result (buffers stack.now heap.now wi or) }
+        ensures { (lim : Limits) (wi or : List ℕ) → Within lim self → Meets lim self (buffers stack.now heap.now wi or) (priced cost (If b)) result (buffers stack.now heap.now wi or) }
     {
         let sp = self.sp;
         if sp - self.lp < 1 {
@@ -95,26 +88,19 @@ impl Regs {
         }
         let mut to = self.pc + 1;
         if heap[p + 1] == 1 {
-            to = b;
+            to = b as usize;
         }
         let mut next = self;
         next.sp = sp - 1;
         next.pc = to;
-        self.charge_time(lim, cost, next)
+        self.charge(cost, next, None, None)
     }
 
     // "17 Call a [+3]: return address, ruleset word, static link of slp; slp becomes the new sp + 1, rp 0, pc the entry", which is `to`
-    pub(crate) fn call(
-        self,
-        lim: Limits,
-        cost: usize,
-        a: usize,
-        to: usize,
-        stack: &mut [u32],
-    ) -> Turn
-        requires fit { Fit lim self }
-        requires stack_in_bounds { lim.stack ≤ length stack.old }
-        ensures { (P : Program) (he wi or : List ℕ) → P.entry a ≡ to → Meets lim self (buffers stack.old he wi or) (priced cost (Call P a)) result (buffers stack.new he wi or) }
+    pub(crate) fn call(self, cost: usize, a: u8, to: usize, stack: &mut [u32]) -> Turn
+        requires fit { Fit self }
+        requires sp_in_bounds { self.sp ≤ length stack.old }
+        ensures { (heap : ℕ) (P : Program) (he wi or : List ℕ) → P.entry a ≡ to → self.hp ≤ heap → Meets (up_to (length stack.old) heap) self (buffers stack.old he wi or) (priced cost (Call P a)) result (buffers stack.new he wi or) }
     {
         let sp = self.sp;
         let mut next = self;
@@ -122,8 +108,8 @@ impl Regs {
         next.pc = to;
         next.slp = sp + 4;
         next.rp = 0;
-        next.rs = a;
-        let turn = self.charge_depth(lim, cost, next);
+        next.rs = a as usize;
+        let turn = self.charge(cost, next, Some(stack.len()), None);
         if turn.goes_on() {
             stack[sp] = (805306368 + (self.pc + 1)) as u32;
             stack[sp + 1] = (1073741824 + (self.rs * 256 + self.rp)) as u32;
@@ -133,11 +119,11 @@ impl Regs {
     }
 
     // "18 Return: the top word goes to fp-4, sp becomes fp-3, and the four saved words are restored"
-    pub(crate) fn give_back(self, lim: Limits, cost: usize, stack: &mut [u32]) -> Turn
-        requires fit { Fit lim self }
-        requires stack_in_bounds { lim.stack ≤ length stack.old }
+    pub(crate) fn give_back(self, cost: usize, stack: &mut [u32]) -> Turn
+        requires fit { Fit self }
+        requires sp_in_bounds { self.sp ≤ length stack.old }
         requires framed { Framed self stack.old }
-        ensures { (he wi or : List ℕ) → Meets lim self (buffers stack.old he wi or) (priced cost Return) result (buffers stack.new he wi or) }
+        ensures { (lim : Limits) (he wi or : List ℕ) → Within lim self → Meets lim self (buffers stack.old he wi or) (priced cost Return) result (buffers stack.new he wi or) }
     {
         let sp = self.sp;
         let fp = self.fp;
@@ -158,7 +144,7 @@ impl Regs {
         next.fp = back;
         next.lp = locals_end(stack, back);
         next.sp = fp - 3;
-        let turn = self.charge_time(lim, cost, next);
+        let turn = self.charge(cost, next, None, None);
         if turn.goes_on() {
             stack[fp - 4] = top;
         }

@@ -41,26 +41,19 @@ pub struct Code<'a> {
     pub ghost handled: { Handled (program image.now) handler } by { Prim.hlevel (props, Handled-prop) },
 }
 
-fn byte(image: &[u8], i: usize) -> usize
-    requires { i < length image.now }
-    ensures { (result ≡ get_or image.now i 0) × (result < 256) }
-{
-    image[i] as usize
-}
-
 // "Big-endian."
-fn half(image: &[u8], i: usize) -> usize
+fn half(image: &[u8], i: usize) -> u16
     requires { i + 2 ≤ length image.now }
-    ensures { (result ≡ half_of image.now i) × (result < 65536) }
+    ensures { result ≡ half_of image.now i }
 {
-    byte(image, i) * 256 + byte(image, i + 1)
+    image[i] as u16 * 256 + image[i + 1] as u16
 }
 
 fn full(image: &[u8], i: usize) -> u32
     requires { i + 4 ≤ length image.now }
     ensures { result ≡ full_of image.now i }
 {
-    (half(image, i) * 65536 + half(image, i + 2)) as u32
+    half(image, i) as u32 * 65536 + half(image, i + 2) as u32
 }
 
 impl<'a> Code<'a> {
@@ -77,17 +70,17 @@ impl<'a> Code<'a> {
         requires in_bounds { 11 ≤ length image.now }
         ensures { (result.image.now ≡ image.now) × (result.card.now ≡ card.now) }
     {
-        let start = rulesets[byte(image, 7)].image;
-        let inputs = byte(image, 5);
-        let outputs = byte(image, 6);
-        let ruleset = byte(image, 8);
+        let start = rulesets[image[7] as usize].image;
+        let inputs = image[5] as usize;
+        let outputs = image[6] as usize;
+        let ruleset = image[8] as usize;
         // "handler ruleset (255 none)"
         let handler = if ruleset == 255 {
             None
         } else {
             Some(Handler {
                 ruleset,
-                entry: half(image, rulesets[ruleset].image),
+                entry: half(image, rulesets[ruleset].image) as usize,
             })
         };
         Code {
@@ -110,7 +103,7 @@ impl<'a> Code<'a> {
         requires { a < (program self.now.image.now).rulesets }
         ensures { (result ≡ (program self.now.image.now).entry a) × (result < 4096) }
     {
-        half(self.image, self.rulesets[a].image)
+        half(self.image, self.rulesets[a].image) as usize
     }
 
     // "rule count (1 byte, 1..16)" of the ruleset r
@@ -119,7 +112,7 @@ impl<'a> Code<'a> {
         requires { r < (program self.now.image.now).rulesets }
         ensures { (result ≡ (program self.now.image.now).count r) × (result ≤ 16) }
     {
-        byte(self.image, self.rulesets[r].image + 2)
+        self.image[self.rulesets[r].image + 2] as usize
     }
 
     // where the order of the ruleset r begins
@@ -139,7 +132,7 @@ impl<'a> Code<'a> {
     {
         let o = self.order_of(rs) + k;
         let rule = order[o] as usize;
-        half(self.image, self.rulesets[rs].image + 3 + 2 * rule)
+        half(self.image, self.rulesets[rs].image + 3 + 2 * rule) as usize
     }
 
     // ---- instructions: "N instructions of 8 bytes: opcode, a (1 byte), b (2), c (4)"
@@ -149,21 +142,21 @@ impl<'a> Code<'a> {
         requires { pc < (program self.now.image.now).size }
         ensures { (result ≡ (program self.now.image.now).opcode pc) × (1 ≤ result) × (result ≤ 40) }
     {
-        byte(self.image, self.start + 8 * pc)
+        self.image[self.start + 8 * pc] as usize
     }
 
     #[tactic(auto, using(crate::proofs::Imaging::a_is))]
-    pub(crate) fn a_at(&self, pc: usize) -> usize
+    pub(crate) fn a_at(&self, pc: usize) -> u8
         requires { pc < (program self.now.image.now).size }
-        ensures { (result ≡ (program self.now.image.now).arg_a pc) × (result < 256) }
+        ensures { result ≡ (program self.now.image.now).arg_a pc }
     {
-        byte(self.image, self.start + 8 * pc + 1)
+        self.image[self.start + 8 * pc + 1]
     }
 
     #[tactic(auto, using(crate::proofs::Imaging::b_is))]
-    pub(crate) fn b_at(&self, pc: usize) -> usize
+    pub(crate) fn b_at(&self, pc: usize) -> u16
         requires { pc < (program self.now.image.now).size }
-        ensures { (result ≡ (program self.now.image.now).arg_b pc) × (result < 65536) }
+        ensures { result ≡ (program self.now.image.now).arg_b pc }
     {
         half(self.image, self.start + 8 * pc + 2)
     }

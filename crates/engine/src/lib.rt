@@ -26,7 +26,7 @@ ghost use Rattle.engine.specs.Endings.{refusal, ending, beginning};
 use gate::{Refusal, layout, verdict};
 use image::Code;
 use prims::CYCLES;
-use regs::{Limits, Regs};
+use regs::Regs;
 use whole::wipe;
 
 // "an ending carries its own detail inside the returned record"
@@ -177,12 +177,15 @@ fn run_accepted(
     let rulesets = layout(image);
     let cycles = CYCLES;
     let code = Code::new(image, &rulesets, card, &cycles);
-    let lim = Limits {
-        stack: s as usize,
-        heap: h as usize,
-    };
     let first = begin(code.entry_of(0), t);
-    let (last, ending) = first.run(lim, &code, stack, heap, wires, order);
+    // It is lent as much of each area as its limit allows, so that a limit is its slice's length.
+    let (last, ending) = first.run(
+        &code,
+        &mut stack[..s as usize],
+        &mut heap[..h as usize],
+        wires,
+        order,
+    );
     wipe(stack, last.sp);
     wipe(heap, last.hp);
     sum_up(ending, last, t)

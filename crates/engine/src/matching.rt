@@ -5,13 +5,14 @@ ghost use Rattle.hume.specs.Image.{Program, program};
 ghost use Rattle.hume.specs.Instructions.{StartMatches, MatchRule, MatchedRule, MatchNone, MatchAvailable, matches, Reorder, move_last};
 ghost use Rattle.laws.specs.Sizes.{Small};
 ghost use Rattle.laws.specs.Accepted.{OrderFits};
+ghost use Rattle.engine.specs.Limits.{Limits, Within, up_to};
 ghost use Rattle.engine.specs.Turns.{Bears, Meets, priced, buffers};
 ghost use Rattle.engine.specs.Fits.{Fit, Refs};
 ghost use Rattle.engine.specs.Attempts.{Attempts, concludes, seeks};
 
 use super::Ending;
 use super::image::Code;
-use super::regs::{Limits, Regs, Turn};
+use super::regs::{Regs, Turn};
 use super::words::is_value;
 
 // The cell that a match asks for: its header, and its second word unless any will do.
@@ -59,22 +60,22 @@ fn move_last(order: &mut [u32], i: usize, j: usize)
 
 impl Regs {
     // "22 StartMatches: to the current ruleset's rule at order 0"
-    pub(crate) fn start_matches(self, lim: Limits, cost: usize, code: &Code, order: &[u32]) -> Turn
-        requires fit { Fit lim self }
+    pub(crate) fn start_matches(self, cost: usize, code: &Code, order: &[u32]) -> Turn
+        requires fit { Fit self }
         requires order_fits { OrderFits (program code.now.image.now) order.now }
         requires rs_bound { self.rs < (program code.now.image.now).rulesets }
-        ensures { (st he wi : List ℕ) → Meets lim self (buffers st he wi order.now) (priced cost (StartMatches (program code.now.image.now))) result (buffers st he wi order.now) }
+        ensures { (lim : Limits) (st he wi : List ℕ) → Within lim self → Meets lim self (buffers st he wi order.now) (priced cost (StartMatches (program code.now.image.now))) result (buffers st he wi order.now) }
     {
         let mut next = self;
         next.pc = code.rule_at(order, self.rs, 0);
-        self.charge_time(lim, cost, next)
+        self.charge(cost, next, None, None)
     }
 
     // "23 MatchRule: rp + 1, mp and inp 0, values dropped"; "7 MatchRule with rp at the count"
-    pub(crate) fn match_rule(self, lim: Limits, cost: usize, code: &Code) -> Turn
-        requires fit { Fit lim self }
+    pub(crate) fn match_rule(self, cost: usize, code: &Code) -> Turn
+        requires fit { Fit self }
         requires rs_bound { self.rs < (program code.now.image.now).rulesets }
-        ensures { (st he wi or : List ℕ) → Meets lim self (buffers st he wi or) (priced cost (MatchRule (program code.now.image.now))) result (buffers st he wi or) }
+        ensures { (lim : Limits) (st he wi or : List ℕ) → Within lim self → Meets lim self (buffers st he wi or) (priced cost (MatchRule (program code.now.image.now))) result (buffers st he wi or) }
     {
         let count = code.count_of(self.rs);
         if count <= self.rp {
@@ -86,30 +87,30 @@ impl Regs {
         next.rp = self.rp + 1;
         next.mp = 0;
         next.inp = 0;
-        self.charge_time(lim, cost, next)
+        self.charge(cost, next, None, None)
     }
 
     // "24 MatchedRule: values dropped"
-    pub(crate) fn matched_rule(self, lim: Limits, cost: usize) -> Turn
-        requires { Fit lim self }
-        ensures { (st he wi or : List ℕ) → Meets lim self (buffers st he wi or) (priced cost MatchedRule) result (buffers st he wi or) }
+    pub(crate) fn matched_rule(self, cost: usize) -> Turn
+        requires { Fit self }
+        ensures { (lim : Limits) (st he wi or : List ℕ) → Within lim self → Meets lim self (buffers st he wi or) (priced cost MatchedRule) result (buffers st he wi or) }
     {
         let mut next = self;
         next.sp = self.lp;
         next.pc = self.pc + 1;
-        self.charge_time(lim, cost, next)
+        self.charge(cost, next, None, None)
     }
 
     // "25 MatchNone: mp + 1, inp + 1"
-    pub(crate) fn match_none(self, lim: Limits, cost: usize) -> Turn
-        requires { Fit lim self }
-        ensures { (st he wi or : List ℕ) → Meets lim self (buffers st he wi or) (priced cost MatchNone) result (buffers st he wi or) }
+    pub(crate) fn match_none(self, cost: usize) -> Turn
+        requires { Fit self }
+        ensures { (lim : Limits) (st he wi or : List ℕ) → Within lim self → Meets lim self (buffers st he wi or) (priced cost MatchNone) result (buffers st he wi or) }
     {
         let mut next = self;
         next.pc = self.pc + 1;
         next.mp = self.mp + 1;
         next.inp = self.inp + 1;
-        self.charge_time(lim, cost, next)
+        self.charge(cost, next, None, None)
     }
 
     // "26 MatchAvailable: inp + 1, fails if that input is empty"; "input (inp at least their number)"
@@ -153,51 +154,43 @@ impl Regs {
     }
 
     // "A failure goes to the rule at order rp"; "3 no rule left after a failed match"
-    fn conclude(
-        self,
-        lim: Limits,
-        cost: usize,
-        attempt: Attempt,
-        code: &Code,
-        order: &[u32],
-    ) -> Turn
-        requires fit { Fit lim self }
+    fn conclude(self, cost: usize, attempt: Attempt, code: &Code, order: &[u32]) -> Turn
+        requires fit { Fit self }
         requires order_fits { OrderFits (program code.now.image.now) order.now }
         requires rs_bound { self.rs < (program code.now.image.now).rulesets }
-        ensures { (st he wi : List ℕ) → Meets lim self (buffers st he wi order.now) (priced cost (concludes (program code.now.image.now) attempt)) result (buffers st he wi order.now) }
+        ensures { (lim : Limits) (st he wi : List ℕ) → Within lim self → Meets lim self (buffers st he wi order.now) (priced cost (concludes (program code.now.image.now) attempt)) result (buffers st he wi order.now) }
     {
         let mut next = self;
         next.mp = attempt.mp;
         next.inp = attempt.inp;
         if attempt.hit {
             next.pc = self.pc + 1;
-            return self.charge_time(lim, cost, next);
+            return self.charge(cost, next, None, None);
         }
         let count = code.count_of(self.rs);
         if count <= self.rp {
             return self.halt(Ending::NoRule);
         }
         next.pc = code.rule_at(order, self.rs, self.rp);
-        self.charge_time(lim, cost, next)
+        self.charge(cost, next, None, None)
     }
 
     // "26 MatchAvailable"
     pub(crate) fn match_available(
         self,
-        lim: Limits,
         cost: usize,
         code: &Code,
         order: &[u32],
         wires: &[u32],
     ) -> Turn
-        requires fit { Fit lim self }
+        requires fit { Fit self }
         requires order_fits { OrderFits (program code.now.image.now) order.now }
         requires rs_bound { self.rs < (program code.now.image.now).rulesets }
         requires wires_in_bounds { 65 * code.now.inputs ≤ length wires.now }
-        ensures { (st he : List ℕ) → Meets lim self (buffers st he wires.now order.now) (priced cost (MatchAvailable (program code.now.image.now))) result (buffers st he wires.now order.now) }
+        ensures { (lim : Limits) (st he : List ℕ) → Within lim self → Meets lim self (buffers st he wires.now order.now) (priced cost (MatchAvailable (program code.now.image.now))) result (buffers st he wires.now order.now) }
     {
         match self.available(code.inputs, wires) {
-            Ok(attempt) => self.conclude(lim, cost, attempt, code, order),
+            Ok(attempt) => self.conclude(cost, attempt, code, order),
             Err(ending) => self.halt(ending),
         }
     }
@@ -205,7 +198,6 @@ impl Regs {
     // 27 to 32: the cell that is asked for differs, a failure doesn't.
     pub(crate) fn match_cell(
         self,
-        lim: Limits,
         cost: usize,
         pattern: Pattern,
         code: &Code,
@@ -213,30 +205,30 @@ impl Regs {
         stack: &[u32],
         heap: &[u32],
     ) -> Turn
-        requires fit { Fit lim self }
+        requires fit { Fit self }
         requires order_fits { OrderFits (program code.now.image.now) order.now }
         requires rs_bound { self.rs < (program code.now.image.now).rulesets }
-        requires stack_in_bounds { (lim.stack ≤ length stack.now) × (lim.heap ≤ length heap.now) }
+        requires within { Within (up_to (length stack.now) (length heap.now)) self }
         requires refs { Refs self stack.now }
-        ensures { (wi : List ℕ) → Meets lim self (buffers stack.now heap.now wi order.now) (priced cost (matches (program code.now.image.now) (seeks pattern))) result (buffers stack.now heap.now wi order.now) }
+        ensures { (lim : Limits) (wi : List ℕ) → Within lim self → Meets lim self (buffers stack.now heap.now wi order.now) (priced cost (matches (program code.now.image.now) (seeks pattern))) result (buffers stack.now heap.now wi order.now) }
     {
         match self.compare(pattern, stack, heap) {
-            Ok(attempt) => self.conclude(lim, cost, attempt, code, order),
+            Ok(attempt) => self.conclude(cost, attempt, code, order),
             Err(ending) => self.halt(ending),
         }
     }
 
     // "34 Reorder: the rule at order position rp goes last, those after it move down one; with rp = count, nothing"
-    pub(crate) fn reorder(self, lim: Limits, cost: usize, code: &Code, order: &mut [u32]) -> Turn
-        requires fit { Fit lim self }
+    pub(crate) fn reorder(self, cost: usize, code: &Code, order: &mut [u32]) -> Turn
+        requires fit { Fit self }
         requires order_fits { OrderFits (program code.now.image.now) order.old }
         requires rs_bound { self.rs < (program code.now.image.now).rulesets }
-        ensures { (st he wi : List ℕ) → Meets lim self (buffers st he wi order.old) (priced cost (Reorder (program code.now.image.now))) result (buffers st he wi order.new) }
+        ensures { (lim : Limits) (st he wi : List ℕ) → Within lim self → Meets lim self (buffers st he wi order.old) (priced cost (Reorder (program code.now.image.now))) result (buffers st he wi order.new) }
     {
         let rs = self.rs;
         let mut next = self;
         next.pc = self.pc + 1;
-        let turn = self.charge_time(lim, cost, next);
+        let turn = self.charge(cost, next, None, None);
         if turn.goes_on() {
             let count = code.count_of(rs);
             if self.rp < count {

@@ -5,6 +5,7 @@ ghost use Rattle.hume.specs.Image.{Program};
 ghost use Rattle.hume.specs.Primitives.{truth as truth_of, is_true, prim1 as primitive1, prim2 as primitive2};
 ghost use Rattle.hume.specs.Instructions.{CallPrim1, CallPrim2, Raise};
 ghost use Rattle.arith.specs.Cuts.{cut};
+ghost use Rattle.engine.specs.Limits.{Within, up_to};
 ghost use Rattle.engine.specs.Turns.{Meets, priced, buffers};
 ghost use Rattle.engine.specs.Fits.{Fit, Refs};
 ghost use Rattle.engine.specs.Outcomes.{tried, kept, quotient, cutting};
@@ -12,7 +13,7 @@ ghost use Rattle.engine.specs.Outcomes.{operands as operands_of, results, throws
 
 use super::Ending;
 use super::image::Handler;
-use super::regs::{Limits, Regs, Turn};
+use super::regs::{Regs, Turn};
 use super::words::{BOOL, EXN, FLOAT, INT, LINK, NONE, REFERENCE, is_value, place_of};
 use arith::{
     add_float, add_int, div_float, div_int, eq_float, le_float, le_int, lt_float, lt_int, mod_int,
@@ -123,7 +124,7 @@ fn converted(h: u32, c: Option<u32>) -> Result<Cell, Trouble>
 }
 
 // "One operand: 1 not, 2 toFloat.i, 3 toInt.f"; h is its header, x its payload.
-fn prim1(a: usize, h: u32, x: u32) -> Result<Cell, Trouble>
+fn prim1(a: u8, h: u32, x: u32) -> Result<Cell, Trouble>
     ensures { result ≡ tried (primitive1 a) (eqb h (primitive1 a).takes) x 0 }
 {
     match a {
@@ -135,7 +136,7 @@ fn prim1(a: usize, h: u32, x: u32) -> Result<Cell, Trouble>
 }
 
 // "Two": both operands have the header h.
-fn pair(a: usize, h: u32, x: u32, y: u32) -> Result<Cell, Trouble>
+fn pair(a: u8, h: u32, x: u32, y: u32) -> Result<Cell, Trouble>
     ensures { result ≡ tried (primitive2 a) (eqb h (primitive2 a).takes) x y }
 {
     match a {
@@ -166,7 +167,7 @@ fn pair(a: usize, h: u32, x: u32, y: u32) -> Result<Cell, Trouble>
 }
 
 // "the top word being the first operand": its header h0 and payload x, and those of the second.
-fn prim2(a: usize, h0: u32, x: u32, h1: u32, y: u32) -> Result<Cell, Trouble>
+fn prim2(a: u8, h0: u32, x: u32, h1: u32, y: u32) -> Result<Cell, Trouble>
     ensures { result ≡ tried (primitive2 a) (eqb h0 (primitive2 a).takes && eqb h1 (primitive2 a).takes) x y }
 {
     if h0 != h1 {
@@ -183,14 +184,14 @@ const CALL_PRIM1: usize = 19;
 const CALL_PRIM2: usize = 20;
 
 // The cycles of a primitive besides the card's, and none for Raise.
-fn cycles(table: &[u16], op: usize, a: usize) -> u16
+fn cycles(table: &[u16], op: usize, a: u8) -> u16
     requires applies { Applies op a }
     requires table_value { table.now ≡ cycle_table }
     ensures { Cycles op a result }
 {
     match op {
-        CALL_PRIM1 => table[a - 1],
-        CALL_PRIM2 => table[a + 2],
+        CALL_PRIM1 => table[a as usize - 1],
+        CALL_PRIM2 => table[a as usize + 2],
         _ => 0,
     }
 }
@@ -204,7 +205,7 @@ fn operands(op: usize) -> usize
 
 impl Regs {
     // "19 CallPrim1 a [0]"
-    fn try_one(self, a: usize, stack: &[u32], heap: &[u32]) -> Result<Cell, Trouble>
+    fn try_one(self, a: u8, stack: &[u32], heap: &[u32]) -> Result<Cell, Trouble>
         requires lp_le_sp { (self.lp ≤ self.sp) × (self.sp ≤ length stack.now) × (self.hp ≤ length heap.now) }
         requires refs { Refs self stack.now }
         ensures deals { Deals self stack.now heap.now 1 (primitive1 a).cycles (λ P. CallPrim1 P a) result }
@@ -221,7 +222,7 @@ impl Regs {
     }
 
     // "20 CallPrim2 a [-1]", "the top word being the first operand"
-    fn try_two(self, a: usize, stack: &[u32], heap: &[u32]) -> Result<Cell, Trouble>
+    fn try_two(self, a: u8, stack: &[u32], heap: &[u32]) -> Result<Cell, Trouble>
         requires lp_le_sp { (self.lp ≤ self.sp) × (self.sp ≤ length stack.now) × (self.hp ≤ length heap.now) }
         requires refs { Refs self stack.now }
         ensures deals { Deals self stack.now heap.now 2 (primitive2 a).cycles (λ P. CallPrim2 P a) result }
@@ -241,9 +242,8 @@ impl Regs {
     }
 
     // "21 Raise b: makes Exn b of the top value (reference or None)"
-    fn try_raise(self, b: u32, stack: &[u32]) -> Result<Cell, Trouble>
+    fn try_raise(self, b: u16, stack: &[u32]) -> Result<Cell, Trouble>
         requires sp_in_bounds { self.sp ≤ length stack.now }
-        requires b_bound { b < 65536 }
         ensures by_index { (he : List ℕ) → Deals self stack.now he 1 0 (λ P. Raise P b) result }
         ensures fair { Fair self 1 result }
     {
@@ -256,23 +256,15 @@ impl Regs {
             return Err(WRONG_KIND);
         }
         Err(Trouble::Raises {
-            exception: b,
+            exception: b as u32,
             field: w,
         })
     }
 
     // By opcode.
-    fn try_any(
-        self,
-        op: usize,
-        a: usize,
-        b: u32,
-        stack: &[u32],
-        heap: &[u32],
-    ) -> Result<Cell, Trouble>
+    fn try_any(self, op: usize, a: u8, b: u16, stack: &[u32], heap: &[u32]) -> Result<Cell, Trouble>
         requires lp_le_sp { (self.lp ≤ self.sp) × (self.sp ≤ length stack.now) × (self.hp ≤ length heap.now) }
         requires refs { Refs self stack.now }
-        requires b_bound { b < 65536 }
         ensures { Tries self stack.now heap.now op a b result }
     {
         match op {
@@ -285,7 +277,6 @@ impl Regs {
     // "result 2 heap words", above the lower words: in the place of operands, or on top of all
     pub(crate) fn give(
         self,
-        lim: Limits,
         cost: usize,
         low: usize,
         h: u32,
@@ -293,18 +284,17 @@ impl Regs {
         stack: &mut [u32],
         heap: &mut [u32],
     ) -> Turn
-        requires fit { Fit lim self }
-        requires stack_in_bounds { lim.stack ≤ length stack.old }
-        requires heap_in_bounds { lim.heap ≤ length heap.old }
+        requires fit { Fit self }
+        requires within { Within (up_to (length stack.old) (length heap.old)) self }
         requires lp_le_low { (self.lp ≤ low) × (low ≤ self.sp) }
-        ensures { (t k : ℕ) (wi or : List ℕ) → cost ≡ t + k → Meets lim self (buffers stack.old heap.old wi or) (priced t (results k low h x)) result (buffers stack.new heap.new wi or) }
+        ensures { (t k : ℕ) (wi or : List ℕ) → cost ≡ t + k → Meets (up_to (length stack.old) (length heap.old)) self (buffers stack.old heap.old wi or) (priced t (results k low h x)) result (buffers stack.new heap.new wi or) }
     {
         let hp = self.hp;
         let mut next = self;
         next.sp = low + 1;
         next.hp = hp + 2;
         next.pc = self.pc + 1;
-        let turn = self.charge(lim, cost, next);
+        let turn = self.charge(cost, next, Some(stack.len()), Some(heap.len()));
         if turn.goes_on() {
             heap[hp] = h;
             heap[hp + 1] = x;
@@ -317,7 +307,6 @@ impl Regs {
     // with rp 0"; "4 exception (number) with no handler"
     fn raise(
         self,
-        lim: Limits,
         cost: usize,
         e: u32,
         w: u32,
@@ -325,11 +314,10 @@ impl Regs {
         stack: &mut [u32],
         heap: &mut [u32],
     ) -> Turn
-        requires fit { Fit lim self }
-        requires stack_in_bounds { lim.stack ≤ length stack.old }
-        requires heap_in_bounds { lim.heap ≤ length heap.old }
+        requires fit { Fit self }
+        requires within { Within (up_to (length stack.old) (length heap.old)) self }
         requires e_bound { e < 65536 }
-        ensures { (P : Program) (t k : ℕ) (wi or : List ℕ) → Handled P handler → cost ≡ t + k → Meets lim self (buffers stack.old heap.old wi or) (priced t (throws P k e w)) result (buffers stack.new heap.new wi or) }
+        ensures { (P : Program) (t k : ℕ) (wi or : List ℕ) → Handled P handler → cost ≡ t + k → Meets (up_to (length stack.old) (length heap.old)) self (buffers stack.old heap.old wi or) (priced t (throws P k e w)) result (buffers stack.new heap.new wi or) }
     {
         let Some(handler) = handler else {
             return self.halt(Ending::Unhandled(e));
@@ -344,7 +332,7 @@ impl Regs {
         next.slp = 0;
         next.rp = 0;
         next.rs = handler.ruleset;
-        let turn = self.charge(lim, cost, next);
+        let turn = self.charge(cost, next, Some(stack.len()), Some(heap.len()));
         if turn.goes_on() {
             heap[hp] = EXN + e;
             heap[hp + 1] = 1;
@@ -361,38 +349,35 @@ impl Regs {
     // 19 CallPrim1, 20 CallPrim2 and 21 Raise.
     pub(crate) fn apply(
         self,
-        lim: Limits,
         cost: usize,
         op: usize,
-        a: usize,
-        b: u32,
+        a: u8,
+        b: u16,
         handler: Option<Handler>,
         table: &[u16],
         stack: &mut [u32],
         heap: &mut [u32],
     ) -> Turn
-        requires fit { Fit lim self }
-        requires stack_in_bounds { lim.stack ≤ length stack.old }
-        requires heap_in_bounds { lim.heap ≤ length heap.old }
+        requires fit { Fit self }
+        requires within { Within (up_to (length stack.old) (length heap.old)) self }
         requires refs { Refs self stack.old }
-        requires b_bound { b < 65536 }
         requires cost_bound { cost < 65536 }
         requires applies { Applies op a }
         requires table_value { table.now ≡ cycle_table }
-        ensures prim1 { (P : Program) (wi or : List ℕ) → Handled P handler → op ≡ 19 → Meets lim self (buffers stack.old heap.old wi or) (priced cost (CallPrim1 P a)) result (buffers stack.new heap.new wi or) }
-        ensures prim2 { (P : Program) (wi or : List ℕ) → Handled P handler → op ≡ 20 → Meets lim self (buffers stack.old heap.old wi or) (priced cost (CallPrim2 P a)) result (buffers stack.new heap.new wi or) }
-        ensures raise { (P : Program) (wi or : List ℕ) → Handled P handler → op ≡ 21 → Meets lim self (buffers stack.old heap.old wi or) (priced cost (Raise P b)) result (buffers stack.new heap.new wi or) }
+        ensures prim1 { (P : Program) (wi or : List ℕ) → Handled P handler → op ≡ 19 → Meets (up_to (length stack.old) (length heap.old)) self (buffers stack.old heap.old wi or) (priced cost (CallPrim1 P a)) result (buffers stack.new heap.new wi or) }
+        ensures prim2 { (P : Program) (wi or : List ℕ) → Handled P handler → op ≡ 20 → Meets (up_to (length stack.old) (length heap.old)) self (buffers stack.old heap.old wi or) (priced cost (CallPrim2 P a)) result (buffers stack.new heap.new wi or) }
+        ensures raise { (P : Program) (wi or : List ℕ) → Handled P handler → op ≡ 21 → Meets (up_to (length stack.old) (length heap.old)) self (buffers stack.old heap.old wi or) (priced cost (Raise P b)) result (buffers stack.new heap.new wi or) }
     {
         let tried = self.try_any(op, a, b, stack, heap);
         let time = cost + cycles(table, op, a) as usize;
         match tried {
             Ok(cell) => {
                 let low = self.sp - operands(op);
-                self.give(lim, time, low, cell.header, cell.payload, stack, heap)
+                self.give(time, low, cell.header, cell.payload, stack, heap)
             }
             Err(Trouble::Fault(n)) => self.halt(Ending::Fault(n)),
             Err(Trouble::Raises { exception, field }) => {
-                self.raise(lim, time, exception, field, handler, stack, heap)
+                self.raise(time, exception, field, handler, stack, heap)
             }
         }
     }

@@ -1,15 +1,9 @@
 // The registers by value, what a turn of the machine gives back, and what an instruction costs.
-ghost use Rattle.std.specs.Prelude.{◌≡◌, ◌≤◌, ◌<◌, max};
+ghost use Rattle.std.specs.Prelude.{◌≡◌, ℕ, ◌≤◌, ◌<◌, max, false, is_some, ltb};
+ghost use Rattle.engine.specs.Limits.{Limits, Limited};
 ghost use Rattle.engine.specs.Turns.{Charging, goes_on, halt};
 
 use super::Ending;
-
-// The limits on depth and heap. The time that is left is a register.
-#[derive(Clone, Copy)]
-pub struct Limits {
-    pub stack: usize,
-    pub heap: usize,
-}
 
 #[derive(Clone, Copy)]
 pub struct Regs {
@@ -43,6 +37,16 @@ impl Turn {
     }
 }
 
+// Whether so many words are more than the limit, where there is one that they may come to.
+fn exceeds(n: usize, limit: Option<usize>) -> bool
+    ensures { (l : ℕ) → Limited limit n l → result ≡ ltb l n }
+{
+    match limit {
+        Some(most) => most < n,
+        None => false,
+    }
+}
+
 impl Regs {
     // "An instruction that gives any ending but 0 changes nothing, and pc stays on it."
     pub(crate) fn halt(self, e: Ending) -> Turn
@@ -54,69 +58,35 @@ impl Regs {
         }
     }
 
-    // "then time, then depth after it, then heap after it": the next registers, charged, or the limit that is broken.
-    pub(crate) fn charge(self, lim: Limits, cost: usize, next: Regs) -> Turn
-        requires { self.steps < 4294967296 }
-        ensures { Charging lim self cost next result }
+    // "then time, then depth after it, then heap after it": the next registers, charged, or the limit that is broken. The limits
+    // are those of the areas that an instruction can come to.
+    pub(crate) fn charge(
+        self,
+        cost: usize,
+        next: Regs,
+        stack: Option<usize>,
+        heap: Option<usize>,
+    ) -> Turn
+        requires steps { self.steps < 4294967296 }
+        requires no_deeper { is_some stack ≡ false → next.sp ≤ self.peak }
+        ensures { (lim : Limits) → Limited stack next.sp lim.stack → Limited heap next.hp lim.heap → Charging lim self cost next result }
     {
         if self.left < cost {
             return self.halt(Ending::Time);
         }
-        if lim.stack < next.sp {
+        if exceeds(next.sp, stack) {
             return self.halt(Ending::Stack);
         }
-        if lim.heap < next.hp {
+        if exceeds(next.hp, heap) {
             return self.halt(Ending::Heap);
         }
         let mut paid = next;
         paid.steps = self.steps + 1;
         paid.left = self.left - cost;
         paid.peak = self.peak;
-        if self.peak < next.sp {
+        if stack.is_some() && self.peak < next.sp {
             paid.peak = next.sp;
         }
-        Turn {
-            regs: paid,
-            ending: None,
-        }
-    }
-
-    // The same where the heap stays as it is.
-    pub(crate) fn charge_depth(self, lim: Limits, cost: usize, next: Regs) -> Turn
-        requires { (self.steps < 4294967296) × (next.hp ≤ lim.heap) }
-        ensures { Charging lim self cost next result }
-    {
-        if self.left < cost {
-            return self.halt(Ending::Time);
-        }
-        if lim.stack < next.sp {
-            return self.halt(Ending::Stack);
-        }
-        let mut paid = next;
-        paid.steps = self.steps + 1;
-        paid.left = self.left - cost;
-        paid.peak = self.peak;
-        if self.peak < next.sp {
-            paid.peak = next.sp;
-        }
-        Turn {
-            regs: paid,
-            ending: None,
-        }
-    }
-
-    // The same where neither the depth nor the heap grows.
-    pub(crate) fn charge_time(self, lim: Limits, cost: usize, next: Regs) -> Turn
-        requires { (self.steps < 4294967296) × (next.hp ≤ lim.heap) × (next.sp ≤ lim.stack) × (next.sp ≤ self.peak) }
-        ensures { Charging lim self cost next result }
-    {
-        if self.left < cost {
-            return self.halt(Ending::Time);
-        }
-        let mut paid = next;
-        paid.steps = self.steps + 1;
-        paid.left = self.left - cost;
-        paid.peak = self.peak;
         Turn {
             regs: paid,
             ending: None,

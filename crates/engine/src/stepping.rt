@@ -1,12 +1,14 @@
 // One step of the machine: the instruction at pc.
+ghost use Rattle.std.specs.Prelude.{length};
 ghost use Rattle.hume.specs.Image.{program};
 ghost use Rattle.hume.specs.Machine.{machine};
+ghost use Rattle.engine.specs.Limits.{up_to};
 ghost use Rattle.engine.specs.Turns.{Meets, buffers};
 ghost use Rattle.engine.specs.Ready.{Ready};
 
 use super::image::Code;
 use super::matching::Pattern;
-use super::regs::{Limits, Regs, Turn};
+use super::regs::{Regs, Turn};
 use super::words::{BOOL, CONSTR, EXN, FLOAT, INT, TUPLE};
 use arith::canonical;
 
@@ -16,60 +18,58 @@ impl Regs {
     // where they are needed; one that it doesn't name is 0.
     pub(crate) fn step(
         self,
-        lim: Limits,
         code: &Code,
         stack: &mut [u32],
         heap: &mut [u32],
         wires: &mut [u32],
         order: &mut [u32],
     ) -> Turn
-        requires { Ready (program code.now.image.now) lim self (buffers stack.old heap.old wires.old order.old) }
-        ensures { Meets lim self (buffers stack.old heap.old wires.old order.old) (machine (program code.now.image.now) code.now.card.now).act result (buffers stack.new heap.new wires.new order.new) }
+        requires { Ready (program code.now.image.now) self (buffers stack.old heap.old wires.old order.old) }
+        ensures { Meets (up_to (length stack.old) (length heap.old)) self (buffers stack.old heap.old wires.old order.old) (machine (program code.now.image.now) code.now.card.now).act result (buffers stack.new heap.new wires.new order.new) }
     {
         let pc = self.pc;
         let op = code.opcode_at(pc);
         let cost = code.card[op - 1] as usize;
         let pattern = match op {
-            1 => return self.mk_atom(lim, cost, BOOL, code.c_at(pc), stack, heap),
-            2 => return self.mk_atom(lim, cost, INT, code.c_at(pc), stack, heap),
-            3 => return self.mk_atom(lim, cost, FLOAT, canonical(code.c_at(pc)), stack, heap),
-            4 => return self.mk_none(lim, cost, stack),
-            5 => return self.mk_block(lim, cost, TUPLE, code.a_at(pc), stack, heap),
+            1 => return self.mk_atom(cost, BOOL, code.c_at(pc), stack, heap),
+            2 => return self.mk_atom(cost, INT, code.c_at(pc), stack, heap),
+            3 => return self.mk_atom(cost, FLOAT, canonical(code.c_at(pc)), stack, heap),
+            4 => return self.mk_none(cost, stack),
+            5 => return self.mk_block(cost, TUPLE, code.a_at(pc), stack, heap),
             6 => {
                 let h = CONSTR + code.b_at(pc) as u32;
-                return self.mk_block(lim, cost, h, code.a_at(pc), stack, heap);
+                return self.mk_block(cost, h, code.a_at(pc), stack, heap);
             }
-            7 => return self.push_nulls(lim, cost, code.a_at(pc), stack),
-            8 => return self.pop(lim, cost, code.a_at(pc)),
-            9 => return self.slide(lim, cost, code.a_at(pc), stack),
-            10 => return self.copy(lim, cost, code.a_at(pc), stack),
-            11 => return self.copy_arg(lim, cost, code.a_at(pc), stack),
-            12 => return self.create_frame(lim, cost, code.a_at(pc), stack),
-            13 => return self.push_var(lim, cost, code.a_at(pc), stack),
-            14 => return self.make_var(lim, cost, code.a_at(pc), stack),
-            15 => return self.goto(lim, cost, code.b_at(pc)),
-            16 => return self.if_true(lim, cost, code.b_at(pc), stack, heap),
+            7 => return self.push_nulls(cost, code.a_at(pc), stack),
+            8 => return self.pop(cost, code.a_at(pc)),
+            9 => return self.slide(cost, code.a_at(pc), stack),
+            10 => return self.copy(cost, code.a_at(pc), stack),
+            11 => return self.copy_arg(cost, code.a_at(pc), stack),
+            12 => return self.create_frame(cost, code.a_at(pc), stack),
+            13 => return self.push_var(cost, code.a_at(pc), stack),
+            14 => return self.make_var(cost, code.a_at(pc), stack),
+            15 => return self.goto(cost, code.b_at(pc)),
+            16 => return self.if_true(cost, code.b_at(pc), stack, heap),
             17 => {
                 let a = code.a_at(pc);
-                return self.call(lim, cost, a, code.entry_of(a), stack);
+                return self.call(cost, a, code.entry_of(a as usize), stack);
             }
-            18 => return self.give_back(lim, cost, stack),
+            18 => return self.give_back(cost, stack),
             19 | 20 | 21 => return self.apply(
-                lim,
                 cost,
                 op,
                 code.a_at(pc),
-                code.b_at(pc) as u32,
+                code.b_at(pc),
                 code.handler,
                 code.cycles,
                 stack,
                 heap,
             ),
-            22 => return self.start_matches(lim, cost, code, order),
-            23 => return self.match_rule(lim, cost, code),
-            24 => return self.matched_rule(lim, cost),
-            25 => return self.match_none(lim, cost),
-            26 => return self.match_available(lim, cost, code, order, wires),
+            22 => return self.start_matches(cost, code, order),
+            23 => return self.match_rule(cost, code),
+            24 => return self.matched_rule(cost),
+            25 => return self.match_none(cost),
+            26 => return self.match_available(cost, code, order, wires),
             27 => Pattern {
                 header: BOOL,
                 second: Some(code.c_at(pc)),
@@ -94,15 +94,15 @@ impl Regs {
                 header: EXN + code.b_at(pc) as u32,
                 second: None,
             },
-            33 => return self.unpack(lim, cost, stack, heap),
-            34 => return self.reorder(lim, cost, code, order),
-            35 => return self.copy_input(lim, cost, code.a_at(pc), stack, heap, wires),
-            36 => return self.consume(lim, cost, code.a_at(pc), wires),
-            37 => return self.consume(lim, cost, code.a_at(pc), wires),
-            38 => return self.check_outputs(lim, cost, code.inputs, code.outputs, stack, wires),
-            39 => return self.write(lim, cost, code.a_at(pc), code.inputs, stack, heap, wires),
-            _ => return self.schedule(lim, cost),
+            33 => return self.unpack(cost, stack, heap),
+            34 => return self.reorder(cost, code, order),
+            35 => return self.copy_input(cost, code.a_at(pc), stack, heap, wires),
+            36 => return self.consume(cost, code.a_at(pc), wires),
+            37 => return self.consume(cost, code.a_at(pc), wires),
+            38 => return self.check_outputs(cost, code.inputs, code.outputs, stack, wires),
+            39 => return self.write(cost, code.a_at(pc), code.inputs, stack, heap, wires),
+            _ => return self.schedule(cost),
         };
-        self.match_cell(lim, cost, pattern, code, order, stack, heap)
+        self.match_cell(cost, pattern, code, order, stack, heap)
     }
 }

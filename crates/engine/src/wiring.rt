@@ -6,6 +6,7 @@ ghost use Rattle.hume.specs.Tests.{pick};
 ghost use Rattle.hume.specs.Image.{Program};
 ghost use Rattle.hume.specs.Values.{spread};
 ghost use Rattle.hume.specs.Instructions.{CopyInput, Consume, CheckOutputs, Write};
+ghost use Rattle.engine.specs.Limits.{Limits, Within, up_to};
 ghost use Rattle.engine.specs.Turns.{Meets, priced, buffers};
 ghost use Rattle.engine.specs.Fits.{Fit};
 ghost use Rattle.engine.specs.Copies.{WireFits, FirstStuck, Offered, room_of, taken, TopHeld};
@@ -13,7 +14,7 @@ ghost use Rattle.engine.specs.Copies.{WireFits, FirstStuck, Offered, room_of, ta
 use super::Ending;
 use super::builds::all_values;
 use super::placing::{count_words, place};
-use super::regs::{Limits, Regs, Turn};
+use super::regs::{Regs, Turn};
 use super::spreading::spread;
 use super::words::{NONE, is_value};
 
@@ -68,16 +69,16 @@ fn room_for(w: u32, o: usize, heap: &[u32], wires: &mut [u32]) -> Result<usize, 
 
 impl Regs {
     // "36 Consume a and 37 MaybeConsume a (empty the wire)"
-    pub(crate) fn consume(self, lim: Limits, cost: usize, a: usize, wires: &mut [u32]) -> Turn
-        requires fit { Fit lim self }
+    pub(crate) fn consume(self, cost: usize, a: u8, wires: &mut [u32]) -> Turn
+        requires fit { Fit self }
         requires a_in_bounds { 65 * a + 65 ≤ length wires.old }
-        ensures { (st he or : List ℕ) → Meets lim self (buffers st he wires.old or) (priced cost (Consume a)) result (buffers st he wires.new or) }
+        ensures { (lim : Limits) (st he or : List ℕ) → Within lim self → Meets lim self (buffers st he wires.old or) (priced cost (Consume a)) result (buffers st he wires.new or) }
     {
         let mut next = self;
         next.pc = self.pc + 1;
-        let turn = self.charge_time(lim, cost, next);
+        let turn = self.charge(cost, next, None, None);
         if turn.goes_on() {
-            clear_wire(wires, 65 * a);
+            clear_wire(wires, 65 * a as usize);
         }
         turn
     }
@@ -85,18 +86,17 @@ impl Regs {
     // "38 CheckOutputs: output i is the value i below the top"
     pub(crate) fn check_outputs(
         self,
-        lim: Limits,
         cost: usize,
         inputs: usize,
         outputs: usize,
         stack: &[u32],
         wires: &[u32],
     ) -> Turn
-        requires fit { Fit lim self }
-        requires stack_in_bounds { lim.stack ≤ length stack.now }
+        requires fit { Fit self }
+        requires sp_in_bounds { self.sp ≤ length stack.now }
         requires outputs_bound { outputs ≤ 8 }
         requires outputs_in_bounds { 65 * (inputs + outputs) ≤ length wires.now }
-        ensures { (P : Program) (he or : List ℕ) → P.inputs ≡ inputs → P.outputs ≡ outputs → Meets lim self (buffers stack.now he wires.now or) (priced cost (CheckOutputs P)) result (buffers stack.now he wires.now or) }
+        ensures { (lim : Limits) (P : Program) (he or : List ℕ) → P.inputs ≡ inputs → P.outputs ≡ outputs → Within lim self → Meets lim self (buffers stack.now he wires.now or) (priced cost (CheckOutputs P)) result (buffers stack.now he wires.now or) }
     {
         let sp = self.sp;
         if sp - self.lp < outputs {
@@ -110,26 +110,24 @@ impl Regs {
         }
         let mut next = self;
         next.pc = self.pc + 1;
-        self.charge_time(lim, cost, next)
+        self.charge(cost, next, None, None)
     }
 
     // "35 CopyInput a [+1]": "CopyInput costs the words it places"
     pub(crate) fn copy_input(
         self,
-        lim: Limits,
         cost: usize,
-        a: usize,
+        a: u8,
         stack: &mut [u32],
         heap: &mut [u32],
         wires: &[u32],
     ) -> Turn
-        requires fit { Fit lim self }
-        requires stack_in_bounds { lim.stack ≤ length stack.old }
-        requires heap_in_bounds { lim.heap ≤ length heap.old }
+        requires fit { Fit self }
+        requires within { Within (up_to (length stack.old) (length heap.old)) self }
         requires wire_fits { WireFits wires.now a }
-        ensures { (or : List ℕ) → Meets lim self (buffers stack.old heap.old wires.now or) (priced cost (CopyInput a)) result (buffers stack.new heap.new wires.now or) }
+        ensures { (or : List ℕ) → Meets (up_to (length stack.old) (length heap.old)) self (buffers stack.old heap.old wires.now or) (priced cost (CopyInput a)) result (buffers stack.new heap.new wires.now or) }
     {
-        let at = 65 * a;
+        let at = 65 * a as usize;
         let k = wires[at] as usize;
         if k == 0 {
             return self.halt(Ending::Fault(8));
@@ -141,7 +139,7 @@ impl Regs {
         next.sp = sp + 1;
         next.hp = hp + grown;
         next.pc = self.pc + 1;
-        let turn = self.charge(lim, cost, next);
+        let turn = self.charge(cost, next, Some(stack.len()), Some(heap.len()));
         if turn.goes_on() {
             stack[sp] = place(wires, at + 1, heap, hp, hp + grown);
         }
@@ -152,26 +150,25 @@ impl Regs {
     // the time for it they are taken back.
     pub(crate) fn write(
         self,
-        lim: Limits,
         cost: usize,
-        a: usize,
+        a: u8,
         inputs: usize,
         stack: &[u32],
         heap: &[u32],
         wires: &mut [u32],
     ) -> Turn
-        requires fit { Fit lim self }
-        requires stack_in_bounds { lim.stack ≤ length stack.now }
+        requires fit { Fit self }
+        requires sp_in_bounds { self.sp ≤ length stack.now }
         requires top_held { TopHeld self stack.now heap.now }
         requires wire_fits { WireFits wires.old (inputs + a) }
-        ensures { (P : Program) (or : List ℕ) → P.inputs ≡ inputs → Meets lim self (buffers stack.now heap.now wires.old or) (priced cost (Write P a)) result (buffers stack.now heap.now wires.new or) }
+        ensures { (lim : Limits) (P : Program) (or : List ℕ) → P.inputs ≡ inputs → Within lim self → Meets lim self (buffers stack.now heap.now wires.old or) (priced cost (Write P a)) result (buffers stack.now heap.now wires.new or) }
     {
         let sp = self.sp;
         if sp <= self.lp {
             return self.halt(Ending::Fault(1));
         }
         let w = stack[sp - 1];
-        let o = inputs + a;
+        let o = inputs + a as usize;
         let n = match room_for(w, o, heap, wires) {
             Ok(n) => n,
             Err(fault) => return self.halt(fault),
@@ -179,7 +176,7 @@ impl Regs {
         let mut next = self;
         next.sp = sp - 1;
         next.pc = self.pc + 1;
-        let turn = self.charge_time(lim, cost, next);
+        let turn = self.charge(cost, next, None, None);
         if turn.goes_on() {
             if n != 0 {
                 wires[65 * o] = n as u32;

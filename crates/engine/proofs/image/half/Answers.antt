@@ -1,7 +1,6 @@
 use Rattle.hume.specs.Image.{half, byte}
-use native.Mathlib.Omega.{arith}
 use Rattle.engine.proofs.image.half.Goals as goal
 
 pub returns : goal.returns
 unfolding half byte
-returns c = ((cc), omega arith)
+returns c = cc

@@ -31,7 +31,7 @@ pub returns : goal.returns
 returns c =
     let s = c.args.self.now in
     let e =
-    c.half.ensures.0
+    c.half.ensures
     ∙ rule_at_lem s.imaged s.located c.args.rs c.requires.rs_bound _
     ∙ ap (λ x. (program s.image.now).rule c.args.rs (get_or c.args.order.now (x + c.args.k) 0)) c.order_of.ensures in
     (e, omega (arith, e, rule_small s.imaged c.args.rs _ c.requires.rs_bound (order_small c.requires.order_fits c.args.rs c.requires.rs_bound c.args.k c.requires.k_bound)))

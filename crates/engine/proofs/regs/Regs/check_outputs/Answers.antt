@@ -1,3 +1,4 @@
+use native.Mathlib.Omega.{arith}
 use mathlib.Core.Path.{refl, sym, ◌∙◌}
 use borrow.Author.Tests.{not-true, not-false}
 use Rattle.engine.proofs.Turning.{settled}
@@ -6,11 +7,11 @@ use Rattle.engine.proofs.regs.Regs.check_outputs.Goals as goal
 
 pub returns-then-sp-self : goal.returns-then-sp-self
 returns-then-sp-self c =
-    λ P he or e₁ e₂. record { each = λ ws hs h m n. check_few c.requires.fit h _ _ P m _ e₂ _ c.if-sp-self.true c.halt.ensures }
+    λ lim P he or e₁ e₂ wn. record { each = λ ws hs h m n. check_few c.requires.fit h _ _ P m _ e₂ _ c.if-sp-self.true c.halt.ensures }
 
 pub returns-then-not-all_values : goal.returns-then-not-all_values
 returns-then-not-all_values c =
-    λ P he or e₁ e₂. record {
+    λ lim P he or e₁ e₂ wn. record {
       each = λ ws hs h m n.
           check_other c.requires.fit h _ _ P m _ e₂ _ c.if-sp-self.false
           (sym (c.all_values.ensures ws h.stack m h.sp) ∙ not-true _ c.if-not-all_values.true-raw) c.halt-then-not-all_values.ensures;
@@ -18,7 +19,7 @@ returns-then-not-all_values c =
 
 pub returns-in-Some : goal.returns-in-Some
 returns-in-Some c =
-    λ P he or e₁ e₂. record {
+    λ lim P he or e₁ e₂ wn. record {
       each = λ ws hs h m n.
           check_stuck c.requires.fit h _ _ P m _ e₂ _ e₁ _ _ c.if-sp-self.false
           (sym (c.all_values.ensures ws h.stack m h.sp) ∙ not-false _ c.if-not-all_values.false-raw)
@@ -27,11 +28,11 @@ returns-in-Some c =
 
 pub returns : goal.returns
 returns c =
-    λ P he or e₁ e₂. record {
+    λ lim P he or e₁ e₂ wn. record {
       each = λ ws hs h m n.
           settled (check_leads c.requires.fit h _ _ P m _ e₂ _ e₁ _ c.if-sp-self.false
           (sym (c.all_values.ensures ws h.stack m h.sp) ∙ not-false _ c.if-not-all_values.false-raw)
-          (rw c.in_default.is at c.first_stuck.ensures)) _ c.charge_time.ensures
+          (rw c.in_default.is at c.first_stuck.ensures)) _ (c.charge.ensures _ (omega (arith, wn.stack, c.requires.fit.fp, c.requires.fit.lp)) wn.heap)
           (λ a b. record {
             stack = h.stack;
             heap = h.heap;

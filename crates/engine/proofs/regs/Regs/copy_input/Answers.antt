@@ -1,3 +1,4 @@
+use Rattle.engine.specs.Limits.{up_to}
 use mathlib.Core.Path.{refl, sym, ◌∙◌}
 use Prim.Native.Nat.{◌+◌, ◌≤◌}
 use native.Mathlib.Omega.{arith}
@@ -23,14 +24,22 @@ overflow_add-next-2 c =
     let u = input_at c.requires.wire_fits c.if-k-eq0.false in
     let e = input_size u _ c.count_words-grown.ensures in
     let few = input_few u in
-    omega (arith, c.requires.fit.hp, c.requires.fit.heap_cap)
+    omega (arith, c.requires.fit.hp)
+
+pub overflow_add-hp : goal.overflow_add-hp
+overflow_add-hp c =
+    let pd = went_on (c.charge-turn.ensures (up_to _ _) refl refl) (sym c.goes_on.ensures ∙ c.if-goes_on.true) in omega (arith, pd.heap)
+
+pub bounds-stack-sp : goal.bounds-stack-sp
+bounds-stack-sp c =
+    let pd = went_on (c.charge-turn.ensures (up_to _ _) refl refl) (sym c.goes_on.ensures ∙ c.if-goes_on.true) in omega (arith, pd.depth, c.requires.within.stack)
 
 pub place-requires : goal.place-requires
 place-requires c =
     let u = input_at c.requires.wire_fits c.if-k-eq0.false in
     let e = input_size u _ c.count_words-grown.ensures in
-    let pd = went_on c.charge-turn.ensures (sym c.goes_on.ensures ∙ c.if-goes_on.true) in
-    input_here u _ _ _ (omega (arith, e)) (omega (arith, pd.heap, c.requires.fit.heap_cap)) (omega (arith, pd.heap, c.requires.heap_in_bounds))
+    let pd = went_on (c.charge-turn.ensures (up_to _ _) refl refl) (sym c.goes_on.ensures ∙ c.if-goes_on.true) in
+    input_here u _ _ _ (omega (arith, e)) (omega (arith, e, input_few u, c.requires.fit.hp)) (omega (arith, pd.heap, c.requires.within.heap))
 
 pub returns-then-goes_on : goal.returns-then-goes_on
 returns-then-goes_on c =
@@ -38,12 +47,12 @@ returns-then-goes_on c =
       each = λ ws hs h m n.
           let u = input_at c.requires.wire_fits c.if-k-eq0.false in
           let e = input_size u _ c.count_words-grown.ensures in
-          let pd = went_on c.charge-turn.ensures (sym c.goes_on.ensures ∙ c.if-goes_on.true) in
-          let fits : c.args.self.hp + size u.value ≤ length c.args.heap.now = omega (arith, e, pd.heap, c.requires.heap_in_bounds) in
-          let p = input_placed u (omega (arith, e)) (omega (arith, pd.heap, c.requires.fit.heap_cap)) (omega (arith, pd.heap, c.requires.heap_in_bounds)) c.place.ensures in
-          settle_yes (copy_leads c.requires.fit h _ or _ u _ _ c.if-k-eq0.false e) _ _ c.charge-turn.ensures (sym c.goes_on.ensures ∙ c.if-goes_on.true)
+          let pd = went_on (c.charge-turn.ensures (up_to _ _) refl refl) (sym c.goes_on.ensures ∙ c.if-goes_on.true) in
+          let fits : c.args.self.hp + size u.value ≤ length c.args.heap.now = omega (arith, e, pd.heap, c.requires.within.heap) in
+          let p = input_placed u (omega (arith, e)) (omega (arith, e, input_few u, c.requires.fit.hp)) (omega (arith, pd.heap, c.requires.within.heap)) c.place.ensures in
+          settle_yes (copy_leads c.requires.fit h _ or _ u _ _ c.if-k-eq0.false e) _ _ (c.charge-turn.ensures _ refl refl) (sym c.goes_on.ensures ∙ c.if-goes_on.true)
           (λ x y. record {
-            stack = copy_stack c.requires.fit h _ or c.args.a u p (omega (arith, pd.depth, c.requires.stack_in_bounds));
+            stack = copy_stack c.requires.fit h _ or c.args.a u p (omega (arith, pd.depth, c.requires.within.stack));
             heap = copy_heap c.requires.fit h _ or c.args.a u p fits;
             wires = refl;
             order = refl;
@@ -56,5 +65,5 @@ returns-else-goes_on c =
       each = λ ws hs h m n.
           let u = input_at c.requires.wire_fits c.if-k-eq0.false in
           let e = input_size u _ c.count_words-grown.ensures in
-          settle_no (copy_leads c.requires.fit h _ or _ u _ _ c.if-k-eq0.false e) _ c.charge-turn.ensures (sym c.goes_on.ensures ∙ c.if-goes_on.false);
+          settle_no (copy_leads c.requires.fit h _ or _ u _ _ c.if-k-eq0.false e) _ (c.charge-turn.ensures _ refl refl) (sym c.goes_on.ensures ∙ c.if-goes_on.false);
     }

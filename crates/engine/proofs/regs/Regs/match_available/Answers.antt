@@ -4,8 +4,8 @@ use Rattle.engine.proofs.regs.Regs.match_available.Goals as goal
 
 pub returns-in-Ok : goal.returns-in-Ok
 returns-in-Ok c =
-    λ st he. attempt_goes _ (c.available.ensures _ _ _ _ (sym c.args.code.now.wires_in)) _ c.in-Ok.is (c.conclude.ensures _ _ _)
+    λ lim st he wn. attempt_goes _ (c.available.ensures _ _ _ _ (sym c.args.code.now.wires_in)) _ c.in-Ok.is (c.conclude.ensures _ _ _ _ wn)
 
 pub returns-in-Err : goal.returns-in-Err
 returns-in-Err c =
-    λ st he. attempt_faults _ (c.available.ensures _ _ _ _ (sym c.args.code.now.wires_in)) _ c.in-Err.is c.halt.ensures
+    λ lim st he wn. attempt_faults _ (c.available.ensures _ _ _ _ (sym c.args.code.now.wires_in)) _ c.in-Err.is c.halt.ensures

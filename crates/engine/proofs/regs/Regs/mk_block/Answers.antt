@@ -1,3 +1,4 @@
+use Rattle.engine.specs.Limits.{up_to}
 use mathlib.Core.Path.{refl, sym, ◌∙◌}
 use native.Mathlib.Omega.{arith}
 use borrow.Author.Tests.{not-true, not-false}
@@ -22,23 +23,23 @@ returns-then-not-all_values c =
 
 pub bounds-heap-hp : goal.bounds-heap-hp
 bounds-heap-hp c =
-    let p = went_on c.charge-turn.ensures (sym c.goes_on.ensures ∙ c.if-goes_on.true) in omega (arith, p.heap, c.requires.heap_in_bounds)
+    let p = went_on (c.charge-turn.ensures (up_to _ _) refl refl) (sym c.goes_on.ensures ∙ c.if-goes_on.true) in omega (arith, p.heap, c.requires.within.heap)
 
 pub bounds-heap-hp-then-goes_on : goal.bounds-heap-hp-then-goes_on
 bounds-heap-hp-then-goes_on c =
-    let p = went_on c.charge-turn.ensures (sym c.goes_on.ensures ∙ c.if-goes_on.true) in simp length-set (omega (arith, p.heap, c.requires.heap_in_bounds))
+    let p = went_on (c.charge-turn.ensures (up_to _ _) refl refl) (sym c.goes_on.ensures ∙ c.if-goes_on.true) in simp length-set (omega (arith, p.heap, c.requires.within.heap))
 
 pub put_fields-requires : goal.put_fields-requires
 put_fields-requires c =
-    let p = went_on c.charge-turn.ensures (sym c.goes_on.ensures ∙ c.if-goes_on.true) in (
+    let p = went_on (c.charge-turn.ensures (up_to _ _) refl refl) (sym c.goes_on.ensures ∙ c.if-goes_on.true) in (
       omega (arith, c.if-sp-self.false),
-      omega (arith, c.requires.fit.sp, c.requires.stack_in_bounds),
-      simp length-set (omega (arith, p.heap, c.requires.heap_in_bounds)),
+      omega (arith, c.requires.fit.sp, c.requires.within.stack),
+      simp length-set (omega (arith, p.heap, c.requires.within.heap)),
     )
 
 pub bounds-stack-low : goal.bounds-stack-low
 bounds-stack-low c =
-    let p = went_on c.charge-turn.ensures (sym c.goes_on.ensures ∙ c.if-goes_on.true) in omega (arith, p.depth, c.requires.stack_in_bounds)
+    let p = went_on (c.charge-turn.ensures (up_to _ _) refl refl) (sym c.goes_on.ensures ∙ c.if-goes_on.true) in omega (arith, p.depth, c.requires.within.stack)
 
 pub shape_of-heap : goal.shape_of-heap
 shape_of-heap c = c.put_fields.ensures.long ∙ simp length-set
@@ -50,16 +51,16 @@ returns-then-goes_on c =
       each = λ ws hs h m n.
           settle_yes
           (block_leads c.requires.fit h wi or _ _ _ c.if-sp-self.false
-          (sym (c.all_values.ensures ws h.stack m h.sp) ∙ not-false _ c.if-not-all_values.false-raw)) _ _ c.charge-turn.ensures
+          (sym (c.all_values.ensures ws h.stack m h.sp) ∙ not-false _ c.if-not-all_values.false-raw)) _ _ (c.charge-turn.ensures _ refl refl)
           (sym c.goes_on.ensures ∙ c.if-goes_on.true)
           (λ a b.
           record {
             stack =
                 bears_push _ _ _ _ _ (bears_without _ ws _ h.stack) (without_sp c.requires.fit h wi or _)
-                (bits_ref _ _ h.hp) (omega (arith, c.requires.stack_in_bounds, a));
+                (bits_ref _ _ h.hp) (omega (arith, c.requires.within.stack, a));
             heap =
                 bears_block c.requires.fit h wi or _ _ _ _ _ (omega (arith, c.if-sp-self.false)) c.put_fields.ensures
-                refl refl refl (omega (arith, c.requires.heap_in_bounds, b));
+                refl refl refl (omega (arith, c.requires.within.heap, b));
             wires = refl;
             order = refl;
           });
@@ -72,6 +73,6 @@ returns-else-goes_on c =
       each = λ ws hs h m n.
           settle_no
           (block_leads c.requires.fit h wi or _ _ _ c.if-sp-self.false
-          (sym (c.all_values.ensures ws h.stack m h.sp) ∙ not-false _ c.if-not-all_values.false-raw)) _ c.charge-turn.ensures
+          (sym (c.all_values.ensures ws h.stack m h.sp) ∙ not-false _ c.if-not-all_values.false-raw)) _ (c.charge-turn.ensures _ refl refl)
           (sym c.goes_on.ensures ∙ c.if-goes_on.false);
     }

@@ -7,4 +7,4 @@ use Rattle.engine.proofs.regs.Regs.mk_none.Goals as goal
 
 pub returns : goal.returns
 returns c =
-    λ he wi or. record { each = λ ws hs h m n. turned_as _ _ (mk_none_is c.requires.fit h wi or) ((c.push.ensures none he wi or (sym bits_none)).each ws hs h m n) }
+    λ hl he wi or wn. record { each = λ ws hs h m n. turned_as _ _ (mk_none_is c.requires.fit h wi or) ((c.push.ensures _ none he wi or (sym bits_none) wn).each ws hs h m n) }

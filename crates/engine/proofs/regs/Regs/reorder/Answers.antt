@@ -16,12 +16,12 @@ move_last-requires c = omega (arith, order_room c.requires.order_fits c.args.sel
 
 pub returns-then-self-count : goal.returns-then-self-count
 returns-then-self-count c =
-    λ st he wi. record { each = λ ws hs h m n. settle_yes (reorder_leads h wi _ _ _) _ _ c.charge_time-turn.ensures (sym c.goes_on.ensures ∙ c.if-goes_on.true) (λ a b. record { stack = h.stack; heap = h.heap; wires = refl; order = reordered_moves h wi _ _ _ _ c.order_of-from.ensures c.count_of-count.ensures.0 c.if-self-count.true c.move_last.ensures }) }
+    λ lim st he wi wn. record { each = λ ws hs h m n. settle_yes (reorder_leads h wi _ _ _) _ _ (c.charge-turn.ensures _ (omega (arith, wn.stack, c.requires.fit.fp, c.requires.fit.lp)) wn.heap) (sym c.goes_on.ensures ∙ c.if-goes_on.true) (λ a b. record { stack = h.stack; heap = h.heap; wires = refl; order = reordered_moves h wi _ _ _ _ c.order_of-from.ensures c.count_of-count.ensures.0 c.if-self-count.true c.move_last.ensures }) }
 
 pub returns-else-self-count : goal.returns-else-self-count
 returns-else-self-count c =
-    λ st he wi. record { each = λ ws hs h m n. settle_yes (reorder_leads h wi _ _ _) _ _ c.charge_time-turn.ensures (sym c.goes_on.ensures ∙ c.if-goes_on.true) (λ a b. record { stack = h.stack; heap = h.heap; wires = refl; order = reordered_stays h wi _ _ (rw c.count_of-count.ensures.0 at c.if-self-count.false) }) }
+    λ lim st he wi wn. record { each = λ ws hs h m n. settle_yes (reorder_leads h wi _ _ _) _ _ (c.charge-turn.ensures _ (omega (arith, wn.stack, c.requires.fit.fp, c.requires.fit.lp)) wn.heap) (sym c.goes_on.ensures ∙ c.if-goes_on.true) (λ a b. record { stack = h.stack; heap = h.heap; wires = refl; order = reordered_stays h wi _ _ (rw c.count_of-count.ensures.0 at c.if-self-count.false) }) }
 
 pub returns-else-goes_on : goal.returns-else-goes_on
 returns-else-goes_on c =
-    λ st he wi. record { each = λ ws hs h m n. settle_no (reorder_leads h wi _ _ _) _ c.charge_time-turn.ensures (sym c.goes_on.ensures ∙ c.if-goes_on.false) }
+    λ lim st he wi wn. record { each = λ ws hs h m n. settle_no (reorder_leads h wi _ _ _) _ (c.charge-turn.ensures _ (omega (arith, wn.stack, c.requires.fit.fp, c.requires.fit.lp)) wn.heap) (sym c.goes_on.ensures ∙ c.if-goes_on.false) }

@@ -1,3 +1,4 @@
+use native.Mathlib.Omega.{arith}
 use Rattle.engine.proofs.Trying.{start_leads, stays}
 use Rattle.engine.proofs.Turning.{settled}
 use Rattle.engine.proofs.regs.Regs.start_matches.Goals as goal
@@ -7,4 +8,4 @@ rule_at-requires-clause-k_bound c = c.args.code.now.imaged.accepted.some_rule _ 
 
 pub returns : goal.returns
 returns c =
-    λ st he wi. record { each = λ ws hs h m n. settled (start_leads h wi _ _ _ _ c.rule_at.ensures.0) _ c.charge_time.ensures (λ a b. stays h wi _) }
+    λ lim st he wi wn. record { each = λ ws hs h m n. settled (start_leads h wi _ _ _ _ c.rule_at.ensures.0) _ (c.charge.ensures _ (omega (arith, wn.stack, c.requires.fit.fp, c.requires.fit.lp)) wn.heap) (λ a b. stays h wi _) }

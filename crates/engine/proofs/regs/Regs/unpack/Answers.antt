@@ -1,3 +1,4 @@
+use Rattle.engine.specs.Limits.{up_to}
 use mathlib.Core.Path.{refl, sym, ◌∙◌}
 use native.Mathlib.Omega.{arith}
 use borrow.Author.Tests.{not-true, not-false}
@@ -21,7 +22,7 @@ returns-then-w-ne1 c =
 pub bounds-heap-at : goal.bounds-heap-at
 bounds-heap-at c =
     let p = c.requires.refs.each _ (omega (arith, c.if-sp-self.false)) c.if-w-ne1.false in
-    omega (arith, c.requires.heap_in_bounds, c.requires.fit.hp)
+    omega (arith, c.requires.within.heap, c.requires.fit.hp)
 
 pub returns-then-not-is_block : goal.returns-then-not-is_block
 returns-then-not-is_block c =
@@ -37,29 +38,29 @@ returns-then-not-is_block c =
 pub bounds-heap-at-2 : goal.bounds-heap-at-2
 bounds-heap-at-2 c =
     let p = c.requires.refs.each _ (omega (arith, c.if-sp-self.false)) c.if-w-ne1.false in
-    omega (arith, c.requires.heap_in_bounds, c.requires.fit.hp)
+    omega (arith, c.requires.within.heap, c.requires.fit.hp)
 
 pub overflow_cast-n : goal.overflow_cast-n
 overflow_cast-n c =
     let p =
     c.requires.blocks.each _ (omega (arith, c.if-sp-self.false)) c.if-w-ne1.false
     (block_least _ (sym c.is_block.ensures ∙ not-false _ c.if-not-is_block.false-raw)) in
-    omega (arith, c.requires.fit.hp, c.requires.fit.heap_cap)
+    omega (arith, c.requires.fit.hp)
 
 pub overflow_add-next : goal.overflow_add-next
 overflow_add-next c =
     let p =
     c.requires.blocks.each _ (omega (arith, c.if-sp-self.false)) c.if-w-ne1.false
     (block_least _ (sym c.is_block.ensures ∙ not-false _ c.if-not-is_block.false-raw)) in
-    omega (arith, c.requires.fit.hp, c.requires.fit.heap_cap, c.requires.fit.sp, c.requires.fit.stack_cap)
+    omega (arith, c.requires.fit.hp, c.requires.fit.sp)
 
 pub put_words-requires : goal.put_words-requires
 put_words-requires c =
     let p =
     c.requires.blocks.each _ (omega (arith, c.if-sp-self.false)) c.if-w-ne1.false
     (block_least _ (sym c.is_block.ensures ∙ not-false _ c.if-not-is_block.false-raw)) in
-    let d = went_on c.charge_depth-turn.ensures (sym c.goes_on.ensures ∙ c.if-goes_on.true) in
-    (omega (arith, c.requires.heap_in_bounds, c.requires.fit.hp), omega (arith, d.depth, c.requires.stack_in_bounds))
+    let d = went_on (c.charge-turn.ensures (up_to _ _) refl c.requires.within.heap) (sym c.goes_on.ensures ∙ c.if-goes_on.true) in
+    (omega (arith, c.requires.within.heap, c.requires.fit.hp), omega (arith, d.depth, c.requires.within.stack))
 
 pub returns-then-goes_on : goal.returns-then-goes_on
 returns-then-goes_on c =
@@ -73,13 +74,13 @@ returns-then-goes_on c =
           settle_yes
           (unpack_leads c.requires.fit h wi or _ (reads_below h 0 _ (omega (arith, c.if-sp-self.false)) refl)
           (small_below 0 m) c.if-sp-self.false c.if-w-ne1.false _ refl p _ refl q _
-          (sym c.is_block.ensures ∙ not-false _ c.if-not-is_block.false-raw)) _ _ c.charge_depth-turn.ensures (sym c.goes_on.ensures ∙ c.if-goes_on.true)
+          (sym c.is_block.ensures ∙ not-false _ c.if-not-is_block.false-raw)) _ _ (c.charge-turn.ensures _ refl c.requires.within.heap) (sym c.goes_on.ensures ∙ c.if-goes_on.true)
           (λ a b.
           record {
             stack =
                 bears_unpacked c.requires.fit h wi or _ (reads_below h 0 _ (omega (arith, c.if-sp-self.false)) refl)
                 (small_below 0 m) c.if-sp-self.false c.if-w-ne1.false _ refl p _ refl q c.put_words.ensures
-                (omega (arith, c.requires.stack_in_bounds, a));
+                (omega (arith, c.requires.within.stack, a));
             heap = h.heap;
             wires = refl;
             order = refl;
@@ -98,5 +99,5 @@ returns-else-goes_on c =
           settle_no
           (unpack_leads c.requires.fit h wi or _ (reads_below h 0 _ (omega (arith, c.if-sp-self.false)) refl)
           (small_below 0 m) c.if-sp-self.false c.if-w-ne1.false _ refl p _ refl q _
-          (sym c.is_block.ensures ∙ not-false _ c.if-not-is_block.false-raw)) _ c.charge_depth-turn.ensures (sym c.goes_on.ensures ∙ c.if-goes_on.false);
+          (sym c.is_block.ensures ∙ not-false _ c.if-not-is_block.false-raw)) _ (c.charge-turn.ensures _ refl c.requires.within.heap) (sym c.goes_on.ensures ∙ c.if-goes_on.false);
     }
