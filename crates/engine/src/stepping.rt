@@ -28,7 +28,7 @@ pub struct Fixed {
     pub handler: Option<Handler>,
 }
 
-// "handler ruleset (255 none)"
+// "8 handler ruleset (below R, or 255 for none)"
 fn handler_of(image: &[u8], at: &[usize]) -> Option<Handler>
     requires imaged { Imaged image.now }
     requires placed { Placed image.now at.now }
