@@ -60,7 +60,7 @@ cutting h o = pick (eqb h float_header) (whole o) wrongly
 
 -- ---- what an application comes to
 
--- how many values below the top an application takes
+-- how many values an application takes from the top
 abbrev pub operands : ℕ → ℕ
 operands op = if op == 20 then 2 else 1
 

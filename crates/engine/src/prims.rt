@@ -43,13 +43,13 @@ enum Trouble {
     Raises { exception: u32, field: u32 },
 }
 
-// "1 too few values"
+// Fault 1: there are fewer values than operands.
 const TOO_FEW: Trouble = Trouble::Fault(1);
 
 // "2 wrong kind of word or cell"
 const WRONG_KIND: Trouble = Trouble::Fault(2);
 
-// "Integer zero divisor: exception 1": a primitive's exceptions have the field None.
+// "Integer zero divisor: exception 1"; a primitive's exceptions have the field None.
 const ZERO_DIVISOR: Trouble = Trouble::Raises {
     exception: 1,
     field: NONE,
@@ -178,7 +178,7 @@ fn prim2(a: u8, h0: u32, x: u32, h1: u32, y: u32) -> Result<Cell, Trouble>
 
 // ---- an application
 
-// Of these three the opcode stands for which it is.
+// The opcodes of two of the three; 21, Raise, is the one that is left.
 const CALL_PRIM1: usize = 19;
 
 const CALL_PRIM2: usize = 20;
@@ -196,7 +196,7 @@ fn cycles(table: &[u16], op: usize, a: u8) -> u16
     }
 }
 
-// How many values below the top an application takes: "[0]", "[-1]" with a result on top of them.
+// How many values an application takes from the top.
 fn operands(op: usize) -> usize
     ensures { result ≡ operands_of op }
 {
