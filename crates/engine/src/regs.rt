@@ -37,7 +37,7 @@ impl Turn {
     }
 }
 
-// Whether so many words are more than the limit, where there is one that they may come to.
+// Whether n words break the limit, where there is one.
 fn exceeds(n: usize, limit: Option<usize>) -> bool
     ensures { (l : ℕ) → Limited limit n l → result ≡ ltb l n }
 {
@@ -58,8 +58,8 @@ impl Regs {
         }
     }
 
-    // "then time, then depth after it, then heap after it": the next registers, charged, or the limit that is broken. The limits
-    // are those of the areas that an instruction can come to.
+    // "then time, then depth after it, then heap after it": the next registers, charged, or the limit that is broken. An area
+    // that the instruction can't make longer has no limit here, and nothing is tested.
     pub(crate) fn charge(
         self,
         cost: usize,
