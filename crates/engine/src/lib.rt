@@ -159,7 +159,9 @@ fn begin(pc: usize, time: u32) -> Regs
     }
 }
 
-// The run of a call that no number turns away.
+// The run of a call that no number turns away. It stays a function of its own: compiled into the checks, the loop would share the
+// processor's registers with them.
+#[inline(never)]
 fn run_accepted(
     image: &[u8],
     card: &[u32],

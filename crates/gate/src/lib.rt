@@ -35,6 +35,7 @@ pub fn limits_ok(s: u32, h: u32, stack: usize, heap: usize) -> bool
 
 // Where each ruleset begins, to one past the 32nd. One pass, also past the last ruleset: what stands there is no matter, and is
 // bounded.
+#[inline(always)]
 pub fn layout(image: &[u8]) -> [Start; 33]
     ensures { LaidOut image.now (map in_image result) (map in_order result) }
 {
