@@ -11,7 +11,7 @@ ghost use Rattle.engine.specs.Blocks.{Blocks, making, Placed, from_top, from_pla
 
 use super::Ending;
 use super::regs::{Regs, Turn};
-use super::words::is_value;
+use super::words::{CONSTR, REFERENCE, TUPLE, is_value, place_of};
 
 impl Regs {
     // "1 MkBool c, 2 MkInt c (two's complement), 3 MkFloat c (bits)" [+1]: a header and a payload.
@@ -62,7 +62,7 @@ impl Regs {
             heap[hp] = h;
             heap[hp + 1] = a as u32;
             put_fields(stack, sp, heap, hp + 2, n);
-            stack[low] = 268435456 + hp as u32;
+            stack[low] = REFERENCE + hp as u32;
         }
         turn
     }
@@ -81,10 +81,9 @@ impl Regs {
         }
         let low = sp - 1;
         let w = stack[low];
-        if w / 268435456 != 1 {
+        let Some(at) = place_of(w) else {
             return self.halt(Ending::Fault(2));
-        }
-        let at = (w % 268435456) as usize;
+        };
         let head = heap[at];
         if !is_block(head) {
             return self.halt(Ending::Fault(2));
@@ -128,10 +127,7 @@ fn put_fields(stack: &[u32], sp: usize, heap: &mut [u32], at: usize, a: usize)
 fn is_block(h: u32) -> bool
     ensures { result ≡ (eqb h tuple_header || eqb (h / 65536) 5) }
 {
-    if h == 262144 {
-        return true;
-    }
-    h / 65536 == 5
+    h == TUPLE || h >> 16 == CONSTR >> 16
 }
 
 // The n words from a heap place on, to the stack.

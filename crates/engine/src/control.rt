@@ -11,6 +11,7 @@ ghost use Rattle.engine.specs.Frames.{Framed, framed};
 
 use super::Ending;
 use super::regs::{Regs, Turn};
+use super::words::{BOOL, FRAME, REFERENCE, RETURN, RULES, place_of};
 
 // "Return where a saved word has the wrong type or fp is 0". A frame stands above four saved words, so fp is 0 where it is below 4.
 fn has_frame(stack: &[u32], fp: usize) -> bool
@@ -20,16 +21,16 @@ fn has_frame(stack: &[u32], fp: usize) -> bool
     if fp < 4 {
         return false;
     }
-    if stack[fp - 4] / 268435456 != 3 {
+    if stack[fp - 4] / REFERENCE != 3 {
         return false;
     }
-    if stack[fp - 3] / 268435456 != 4 {
+    if stack[fp - 3] / REFERENCE != 4 {
         return false;
     }
-    if stack[fp - 2] / 268435456 != 5 {
+    if stack[fp - 2] / REFERENCE != 5 {
         return false;
     }
-    stack[fp - 1] / 268435456 == 6
+    stack[fp - 1] / REFERENCE == 6
 }
 
 // "lp is fp + n, with n in the word at fp-1, or 0 if fp is 0"
@@ -79,11 +80,10 @@ impl Regs {
             return self.halt(Ending::Fault(1));
         }
         let w = stack[sp - 1];
-        if w / 268435456 != 1 {
+        let Some(p) = place_of(w) else {
             return self.halt(Ending::Fault(2));
-        }
-        let p = (w % 268435456) as usize;
-        if heap[p] != 65536 {
+        };
+        if heap[p] != BOOL {
             return self.halt(Ending::Fault(2));
         }
         let mut to = self.pc + 1;
@@ -111,9 +111,9 @@ impl Regs {
         next.rs = a as usize;
         let turn = self.charge(cost, next, Some(stack.len()), None);
         if turn.goes_on() {
-            stack[sp] = (805306368 + (self.pc + 1)) as u32;
-            stack[sp + 1] = (1073741824 + (self.rs * 256 + self.rp)) as u32;
-            stack[sp + 2] = (1342177280 + self.slp) as u32;
+            stack[sp] = RETURN + (self.pc + 1) as u32;
+            stack[sp + 1] = RULES + (self.rs * 256 + self.rp) as u32;
+            stack[sp + 2] = FRAME + self.slp as u32;
         }
         turn
     }
@@ -135,12 +135,12 @@ impl Regs {
         }
         let top = stack[sp - 1];
         let ruled = stack[fp - 3];
-        let back = (stack[fp - 1] % 268435456 / 256) as usize;
+        let back = (stack[fp - 1] % REFERENCE / 256) as usize;
         let mut next = self;
-        next.pc = (stack[fp - 4] % 268435456) as usize;
-        next.rs = (ruled % 268435456 / 256) as usize;
+        next.pc = (stack[fp - 4] % REFERENCE) as usize;
+        next.rs = (ruled % REFERENCE / 256) as usize;
         next.rp = (ruled % 256) as usize;
-        next.slp = (stack[fp - 2] % 268435456) as usize;
+        next.slp = (stack[fp - 2] % REFERENCE) as usize;
         next.fp = back;
         next.lp = locals_end(stack, back);
         next.sp = fp - 3;

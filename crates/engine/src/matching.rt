@@ -13,7 +13,7 @@ ghost use Rattle.engine.specs.Attempts.{Attempts, concludes, seeks};
 use super::Ending;
 use super::image::Code;
 use super::regs::{Regs, Turn};
-use super::words::is_value;
+use super::words::{is_value, place_of};
 
 // The cell that a match asks for: its header, and its second word unless any will do.
 #[derive(Clone, Copy)]
@@ -35,10 +35,9 @@ fn cell_matches(pattern: Pattern, w: u32, heap: &[u32]) -> bool
     requires { w / 2 ^ 28 ≡ 1 → w % 2 ^ 28 + 2 ≤ length heap.now }
     ensures { (v : Word) (hs : List Word) → w ≡ bits v → Small v → Bears heap.now hs → (w / 2 ^ 28 ≡ 1 → w % 2 ^ 28 + 2 ≤ length hs) → result ≡ seeks pattern hs v }
 {
-    if w / 268435456 != 1 {
+    let Some(p) = place_of(w) else {
         return false;
-    }
-    let p = (w % 268435456) as usize;
+    };
     if heap[p] != pattern.header {
         return false;
     }

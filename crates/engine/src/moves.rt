@@ -9,7 +9,7 @@ ghost use Rattle.engine.specs.Fits.{Fit};
 
 use super::Ending;
 use super::regs::{Regs, Turn};
-use super::words::is_plain;
+use super::words::{LINK, NONE, is_plain};
 
 // n nulls from a place on. An area is not wiped, so they are stored; for two or fewer, a call that fills memory takes longer.
 fn blank(stack: &mut [u32], at: usize, n: usize)
@@ -81,7 +81,7 @@ impl Regs {
         requires sp_in_bounds { self.sp ≤ length stack.old }
         ensures { (heap : ℕ) (he wi or : List ℕ) → self.hp ≤ heap → Meets (up_to (length stack.old) heap) self (buffers stack.old he wi or) (priced cost MkNone) result (buffers stack.new he wi or) }
     {
-        self.push(cost, 536870912, stack)
+        self.push(cost, NONE, stack)
     }
 
     // "9 Slide a [-a] keeps the top"
@@ -161,7 +161,7 @@ impl Regs {
         next.pc = self.pc + 1;
         let turn = self.charge(cost, next, Some(stack.len()), None);
         if turn.goes_on() {
-            stack[sp] = (1610612736 + (self.fp * 256 + n)) as u32;
+            stack[sp] = LINK + (self.fp * 256 + n) as u32;
             blank(stack, fp, n);
         }
         turn

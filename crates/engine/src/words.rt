@@ -9,6 +9,13 @@ pub(crate) const REFERENCE: u32 = 1 << 28;
 
 pub(crate) const NONE: u32 = 2 << 28;
 
+// The three words that a call saves: the return address, the ruleset with rp, the static link of slp.
+pub(crate) const RETURN: u32 = 3 << 28;
+
+pub(crate) const RULES: u32 = 4 << 28;
+
+pub(crate) const FRAME: u32 = 5 << 28;
+
 pub(crate) const LINK: u32 = 6 << 28;
 
 // Headers: "The header is kind × 65536 + tag"; a Constr or an Exn adds its tag.
