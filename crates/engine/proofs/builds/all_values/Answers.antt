@@ -1,15 +1,8 @@
-use mathlib.Core.Path.{sym, ◌∙◌, ap}
+use mathlib.Core.Path.{sym, ◌∙◌}
 use native.Mathlib.Omega.{arith}
 use borrow.Author.Tests.{not-true, not-false}
-use Prim.Native.Nat.{ℕ}
-use Rattle.hume.specs.Words.{is_value}
-use Rattle.hume.specs.Tests.{all}
-use Rattle.hume.specs.State.{downward}
 use Rattle.engine.proofs.Building.{bears_below, small_below, values_stop, values_more, values_end}
 use Rattle.engine.proofs.builds.all_values.Goals as goal
-
-pub loop-i-init : goal.loop-i-init
-loop-i-init c = λ ws b m e. ap (λ (n : ℕ). all is_value (downward ws 0 n)) (omega arith)
 
 pub returns-then-not-is_value : goal.returns-then-not-is_value
 returns-then-not-is_value c =

@@ -18,9 +18,6 @@ pub blank-requires : goal.blank-requires
 blank-requires c =
     let p = went_on (c.charge-turn.ensures (up_to _ c.args.self.hp) refl (omega arith)) (sym c.goes_on.ensures ∙ c.if-goes_on.true) in simp length-set (omega (arith, p.depth, c.requires.sp_in_bounds))
 
-pub shape_of-stack : goal.shape_of-stack
-shape_of-stack c = c.blank.auto.stack ∙ simp length-set
-
 pub returns-then-goes_on : goal.returns-then-goes_on
 returns-then-goes_on c =
     λ hl he wi or wn. record { each = λ ws hs h m n. settle_yes (create_leads c.requires.fit h wi or _ _ c.ranges.a.fits c.if-sp-self-lt3.false) _ _ (c.charge-turn.ensures _ refl wn) (sym c.goes_on.ensures ∙ c.if-goes_on.true) (λ a b. record { stack = create_bears c.requires.fit h wi or _ _ _ refl (omega (arith, a, c.requires.sp_in_bounds)) c.blank.ensures; heap = h.heap; wires = refl; order = refl }) }

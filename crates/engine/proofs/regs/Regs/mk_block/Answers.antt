@@ -41,9 +41,6 @@ pub bounds-stack-low : goal.bounds-stack-low
 bounds-stack-low c =
     let p = went_on (c.charge-turn.ensures (up_to _ _) refl refl) (sym c.goes_on.ensures ∙ c.if-goes_on.true) in omega (arith, p.depth, c.requires.within.stack)
 
-pub shape_of-heap : goal.shape_of-heap
-shape_of-heap c = c.put_fields.ensures.long ∙ simp length-set
-
 pub returns-then-goes_on : goal.returns-then-goes_on
 returns-then-goes_on c =
     λ wi or.

@@ -1,9 +1,6 @@
-use mathlib.Core.Path.{refl, ◌∙◌}
+use mathlib.Core.Path.{◌∙◌}
 use Rattle.engine.proofs.Looping.{may_step, going_on, is_over}
 use Rattle.engine.proofs.regs.Regs.run.Goals as goal
-
-pub loop-ending-init : goal.loop-ending-init
-loop-ending-init c = (λ u. u.going, refl, refl, refl, refl)
 
 pub step-turn-requires : goal.step-turn-requires
 step-turn-requires c =
@@ -16,18 +13,6 @@ loop-ending-smaller c =
 pub loop-ending-preserved : goal.loop-ending-preserved
 loop-ending-preserved c =
     let i = c.loop-ending.invariant in (λ u. (going_on u (c.loop-ending.invariant.0 u) i.1 i.2 _ _ c.step-turn.ensures (λ e. c.in_default.not-Some e)).going, c.step-turn.auto.stack ∙ i.1, c.step-turn.auto.heap ∙ i.2, c.step-turn.auto.wires ∙ i.3, c.step-turn.auto.order ∙ i.4)
-
-pub shape_of-stack : goal.shape_of-stack
-shape_of-stack c = c.step-turn.auto.stack ∙ c.loop-ending.invariant.1
-
-pub shape_of-heap : goal.shape_of-heap
-shape_of-heap c = c.step-turn.auto.heap ∙ c.loop-ending.invariant.2
-
-pub shape_of-wires : goal.shape_of-wires
-shape_of-wires c = c.step-turn.auto.wires ∙ c.loop-ending.invariant.3
-
-pub shape_of-order : goal.shape_of-order
-shape_of-order c = c.step-turn.auto.order ∙ c.loop-ending.invariant.4
 
 pub returns : goal.returns
 returns c =

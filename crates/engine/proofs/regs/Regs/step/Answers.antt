@@ -7,7 +7,7 @@ use Rattle.engine.proofs.Arms.{arm}
 use Rattle.engine.proofs.Copying.{wire_fits}
 use Rattle.engine.proofs.Writing.{wire_room}
 use Rattle.engine.proofs.Opcodes.{op_4, op_7, op_8, op_9, op_10, op_11, op_12, op_13, op_14, op_15, op_16, op_17, op_18, op_22, op_23, op_24, op_25, op_26, op_33, op_34, op_35, op_36, op_38, op_39, op_40}
-use Rattle.engine.proofs.Dispatching.{price_most, applies, makes_bool, makes_int, makes_float, makes_tuple, makes_con, matches_bool, matches_int, matches_float, matches_tuple, matches_con, matches_exn, consumes_maybe, a_callee, applies_at, consuming_at, input_at, output_at_lem}
+use Rattle.engine.proofs.Dispatching.{applies, makes_bool, makes_int, makes_float, makes_tuple, makes_con, matches_bool, matches_int, matches_float, matches_tuple, matches_con, matches_exn, consumes_maybe, a_callee, applies_at, consuming_at, input_at, output_at_lem}
 use Rattle.engine.proofs.regs.Regs.step.Goals as goal
 use Rattle.engine.proofs.regs.Regs.step.Goals.{in-27, in-28, in-29, in-30, in-31, in-32, in_default-via-then-op-lt1, in_default-via-else-op-lt1+else-op-lt22}
 
@@ -145,9 +145,6 @@ write-requires-clause-wire_fits c = wire_fits (program c.args.code.now.image.now
 pub returns-in-39 : goal.returns-in-39
 returns-in-39 c =
     arm (program c.args.code.now.image.now) _ c.args.code.now.prices c.opcode_at-op.ensures c.a_at-in-39.ensures refl refl (λ s. op_39 _ _ _ _ _ s c.in-39.is) (c.write.ensures _ (program c.args.code.now.image.now) _ (sym c.args.code.now.wires_in) c.requires.within)
-
-pub apply-requires-clause-cost_bound : goal.apply-requires-clause-cost_bound
-apply-requires-clause-cost_bound c = price_most _ _ c.args.code.now.prices c.opcode_at-op.ensures.1 c.opcode_at-op.ensures.2
 
 pub apply-requires-clause-applies : goal.apply-requires-clause-applies
 apply-requires-clause-applies c = applies_at (program c.args.code.now.image.now) _ (c.args.code.now.imaged.accepted.instruction _ c.requires.pc) c.opcode_at-op.ensures.0 c.a_at-in-19.ensures (omega arith) (omega arith)
