@@ -41,7 +41,8 @@ pub struct Code<'a> {
     pub ghost handled: { Handled (program image.now) handler } by { Prim.hlevel (props, Handled-prop) },
 }
 
-// "Big-endian."
+// "Big-endian." Numbers are widened by `as`, which is proved to lose nothing: what `from` gives, each proof here would have to be
+// told.
 fn half(image: &[u8], i: usize) -> u16
     requires { i + 2 ≤ length image.now }
     ensures { result ≡ half_of image.now i }
