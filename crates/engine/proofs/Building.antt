@@ -4,11 +4,11 @@ use mathlib.Core.Bool.{true, false, ◌||◌, true≢false}
 use mathlib.Core.List.{List, [], ◌∷◌, ◌++◌, append_assoc}
 use Prim.Native.Nat.{ℕ, zero, suc, ◌+◌, ◌-◌, ◌/◌, ◌%◌, ◌^◌, ◌≤◌, ◌<◌}
 use native.Mathlib.Nat.{not-suc-le-zero}
-use native.Mathlib.Decide.{ℕ_discrete, dec_le}
+use native.Mathlib.Decide.{dec_le}
 use native.Mathlib.Omega.{arith}
 use lib.Dec.{eqb, eqb→eq, leb, leb→le, le→leb}
 use lib.ListN.{length, get_or, set, take, drop, length-append, length-set, length-drop, get_or-append}
-use lib.Seq.{length-take-le, get_or-take, get_or-drop, get_or-set_same, get_or-set_other, get_or-append-add}
+use lib.Seq.{length-take-le, get_or-take, get_or-drop, get_or-append-add}
 use Rattle.hume.specs.Words.{Word, null, ref, raw, bits, is_value, bool_header, int_header, float_header, tuple_header}
 use Rattle.hume.specs.Numbers.{canonical}
 use Rattle.hume.specs.Tests.{all}
@@ -76,33 +76,6 @@ unfolding below
 small_below {ws} a m = m.each (length ws - (a + 1))
 
 -- ---- words that a loop moves
-
-pub placed_none : (l : List ℕ) (at : ℕ) (f : ℕ → ℕ) → Placed l l at 0 f
-placed_none l at f =
-    record { long = refl; low = λ j k. refl; put = λ i k. absurd (not-suc-le-zero k); high = λ j k. refl }
-
-pub placed_all_lem : {l m : List ℕ} {at n k : ℕ} {f : ℕ → ℕ} → n ≡ k → Placed l m at n f → Placed l m at k f
-placed_all_lem {l} {m} {at} {f = f} e p = subst (λ (x : ℕ). Placed l m at x f) e p
-
-pub placed_more : (l m : List ℕ) (at n x : ℕ) (f : ℕ → ℕ) → Placed l m at n f → x ≡ f n → at + n < length l
-    → Placed l (set m (at + n) x) at (n + 1) f
-placed_more l m at n x f p e h =
-    let z = p.long in
-    record {
-      long = length-set m (at + n) x ∙ p.long;
-      low = λ j k. get_or-set_other m (at + n) j x 0 (λ q. omega (arith, q)) ∙ p.low j k;
-      put = λ i k. by i k (ℕ_discrete i n);
-      high = λ j k. get_or-set_other m (at + n) j x 0 (λ q. omega (arith, q)) ∙ p.high j (omega arith);
-    }
-  where
-    by : (i : ℕ) → i < n + 1 → Dec (i ≡ n) → get_or (set m (at + n) x) (at + i) 0 ≡ f i
-    by i k (yes q) =
-        let z = p.long in
-        ap (λ (y : ℕ). get_or (set m (at + n) x) (at + y) 0) q
-        ∙ get_or-set_same m (at + n) x 0 (omega arith)
-        ∙ e
-        ∙ ap f (sym q)
-    by i k (no q) = get_or-set_other m (at + n) (at + i) x 0 (λ z. q (omega (arith, z))) ∙ p.put i (omega (arith, q))
 
 -- an area bears the words that were moved to its end
 pub bears_placed : (l m : List ℕ) (ws vs : List Word) (at n : ℕ) (f : ℕ → ℕ) → Bears l ws → Placed l m at n f

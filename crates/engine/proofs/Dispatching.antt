@@ -1,20 +1,18 @@
 -- Facts for the arms of the step: which opcode an arm is of, and what its fields are.
 use Rattle.std.specs.Prelude.{Some, None}
-use mathlib.Core.Path.{◌≡◌, refl, sym, ap, ◌∙◌, subst}
+use mathlib.Core.Path.{◌≡◌, sym, ap, ◌∙◌, subst}
 use mathlib.Core.Bool.{false}
-use mathlib.Core.List.{List}
-use Prim.Native.Nat.{ℕ, ◌+◌, ◌-◌, ◌≤◌, ◌<◌}
+use Prim.Native.Nat.{ℕ, ◌+◌, ◌≤◌, ◌<◌}
 use native.Mathlib.Omega.{arith}
 use native.Mathlib.Decide.{ℕ_discrete}
 use lib.Dec.{T, ltb→lt}
 use Rattle.hume.specs.Numbers.{canonical}
-use lib.ListN.{get_or}
 use Rattle.hume.specs.Image.{Program}
 use Rattle.hume.specs.Refusals.{field_ok, format, format_of}
 use Rattle.hume.specs.State.{State, Deed}
 use Rattle.hume.specs.Instructions.{mk_block, MkTuple, MkCon, Consume, MaybeConsume}
-use Rattle.hume.specs.Machine.{instruction, price, charged}
-use Rattle.laws.specs.Accepted.{InstructionFits, CardFits}
+use Rattle.hume.specs.Machine.{instruction, charged}
+use Rattle.laws.specs.Accepted.{InstructionFits}
 use Rattle.engine.specs.Turns.{core, Buffers, Turned, Meets, priced}
 use Rattle.engine.specs.Blocks.{making}
 use Rattle.engine.specs.Outcomes.{Applies}
@@ -23,20 +21,12 @@ use Rattle.engine.specs.declared.matching.Pattern.{Pattern}
 use Rattle.engine.specs.Limits.{Limits}
 use Rattle.engine.specs.declared.regs.Regs.{Regs}
 use Rattle.engine.specs.declared.regs.Turn.{Turn}
-use Rattle.engine.proofs.Arms.{price_is}
 use Rattle.engine.proofs.Opcodes.{op_1, op_2, op_3, op_5, op_6, op_19, op_20, op_21, op_27, op_28, op_29, op_30, op_31, op_32, op_37}
 use Rattle.engine.proofs.Building.{mk_bool_lem, mk_int_lem, mk_float_lem}
 use Rattle.engine.proofs.Granted.{image_applies}
 use Rattle.hume.specs.Instructions.{CallPrim1, CallPrim2, Raise, matches, MatchBool, MatchInt, MatchFloat, MatchTuple, MatchCon, MatchExn}
 
 -- ---- the card
-
-pub price_most : (card : List ℕ) (op : ℕ) → CardFits card → 1 ≤ op → op ≤ 40 → get_or card (op - 1) 0 < 65536
-unfolding price
-price_most card op f l m =
-    let e = price_is card op (get_or card (op - 1) 0) (omega (arith, f.long)) refl in
-    let k = f.most (op - 1) (omega arith) in
-    omega (arith, e, k)
 
 -- ---- what an arm does, by the function that serves several opcodes
 

@@ -27,14 +27,6 @@ module _ {m : List ℕ} (i : Imaged m) where
       let b : ruleset_at m (byte m 7) + 8 * half m 9 ≡ length m = i.long in
       omega arith
 
-  -- so does an instruction
-  pub code_room : (k : ℕ) → k < (program m).size → code_at m 0 + 8 * k + 8 ≤ length m
-  unfolding program code_at
-  code_room k h =
-      let b : ruleset_at m (byte m 7) + 8 * half m 9 ≡ length m = i.long in
-      let c : k < half m 9 = h in
-      omega arith
-
   -- an entry, a rule and an opcode are in their ranges
   pub entry_small : (r : ℕ) → r < (program m).rulesets → (program m).entry r < 4096
   entry_small r h =

@@ -2,7 +2,6 @@
 use mathlib.Core.Path.{◌≡◌, sym, ap, ◌∙◌, subst}
 use mathlib.Core.List.{List, [], ◌∷◌, ◌++◌, append-nil}
 use Prim.Native.Nat.{ℕ, zero, suc, ◌+◌, ◌*◌, ◌-◌, ◌%◌, ◌≤◌, ◌<◌}
-use native.Mathlib.Numerals.{add-one}
 use native.Mathlib.Omega.{arith}
 use lib.Dec.{eqb, eqb→eq}
 use lib.ListN.{length, get_or, set, replicate, length-append, length-set}
@@ -13,14 +12,6 @@ use Rattle.laws.proofs.Tests.{pick_false}
 use Rattle.engine.specs.Turns.{Bears}
 use Rattle.engine.proofs.Areas.{bears_push, locals_take}
 use Rattle.engine.proofs.WordKinds.{bits_null}
-
--- one zero of those that are left
-pub sets_next : (l : List ℕ) (k e : ℕ) → k < e
-    → sets (set l k 0) (k + 1) (replicate (e - (k + 1)) 0) ≡ sets l k (replicate (e - k) 0)
-sets_next l k e h =
-    let z : suc (e - (k + 1)) ≡ e - k = omega arith in
-    ap (λ (j : ℕ). sets (set l k 0) j (replicate (e - (k + 1)) 0)) (add-one k)
-    ∙ ap (λ (m : ℕ). sets l k (replicate m 0)) z
 
 -- none is left
 pub sets_none : (l : List ℕ) (k e : ℕ) → e ≤ k → sets l k (replicate (e - k) 0) ≡ l

@@ -170,12 +170,3 @@ module _ (m : List ℕ) (r at size : ℕ) (ea : at ≡ ruleset_at m r) (es : siz
       ∙ sym (λ j. rules_ok m (ea j + 3) (c j) (es j))
 
 -- ---- where each ruleset begins
-
--- a table that holds up to k + 1 what f says, with one entry more
-pub entry_more : (l : List ℕ) (k v : ℕ) (f : ℕ → ℕ) → k + 1 < length l → ((j : ℕ) → j < k + 1 → get_or l j 0 ≡ f j)
-    → v ≡ f (k + 1)
-    → (j : ℕ) → j < k + 1 + 1 → get_or (set l (k + 1) v) j 0 ≡ f j
-entry_more l k v f h old e =
-    below_more (λ (j : ℕ). get_or (set l (k + 1) v) j 0 ≡ f j) (k + 1)
-    (λ j b. get_or-set_other l (k + 1) j v 0 (λ q. omega arith) ∙ old j b)
-    (get_or-set_same l (k + 1) v 0 h ∙ e)

@@ -31,12 +31,6 @@ and_yes a b e = ap (λ (t : Bool). t && b) e
 pub and_no : (a b : Bool) → a ≡ false → (a && b) ≡ false
 and_no a b e = ap (λ (t : Bool). t && b) e
 
-pub or_yes : (a b : Bool) → a ≡ true → (a || b) ≡ true
-or_yes a b e = ap (λ (t : Bool). t || b) e
-
-pub or_no : (a b : Bool) → a ≡ false → (a || b) ≡ b
-or_no a b e = ap (λ (t : Bool). t || b) e
-
 -- a test in front of a chain, regrouped
 push : (a y z : Bool) {x : Bool} → x ≡ (y && z) → (a && x) ≡ ((a && y) && z)
 push true y z e = e
