@@ -11,7 +11,7 @@ ghost use Rattle.engine.specs.Frames.{Framed, framed};
 
 use super::Ending;
 use super::regs::{Regs, Turn};
-use super::words::{BOOL, FRAME, REFERENCE, RETURN, RULES, place_of};
+use super::words::{BOOL, FRAME, LINK, REFERENCE, RETURN, RULES, place_of};
 
 // "Return where a saved word has the wrong type or fp is 0". A frame stands above four saved words, so fp is 0 where it is below 4.
 fn has_frame(stack: &[u32], fp: usize) -> bool
@@ -21,16 +21,16 @@ fn has_frame(stack: &[u32], fp: usize) -> bool
     if fp < 4 {
         return false;
     }
-    if stack[fp - 4] / REFERENCE != 3 {
+    if stack[fp - 4] / REFERENCE != RETURN / REFERENCE {
         return false;
     }
-    if stack[fp - 3] / REFERENCE != 4 {
+    if stack[fp - 3] / REFERENCE != RULES / REFERENCE {
         return false;
     }
-    if stack[fp - 2] / REFERENCE != 5 {
+    if stack[fp - 2] / REFERENCE != FRAME / REFERENCE {
         return false;
     }
-    stack[fp - 1] / REFERENCE == 6
+    stack[fp - 1] / REFERENCE == LINK / REFERENCE
 }
 
 // "lp is fp + n, with n in the word at fp-1, or 0 if fp is 0"

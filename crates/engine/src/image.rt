@@ -41,8 +41,8 @@ pub struct Code<'a> {
     pub ghost handled: { Handled (program image.now) handler } by { Prim.hlevel (props, Handled-prop) },
 }
 
-// "Big-endian." Numbers are widened by `as`, which is proved to lose nothing: what `from` gives, each proof here would have to be
-// told.
+// "Big-endian." These read as gate's `half_at` and `full_at`, but need no test of the index, which would cost at each instruction. Numbers are
+// widened by `as`, which is proved to lose nothing: what `from` gives, each proof here would have to be told.
 fn half(image: &[u8], i: usize) -> u16
     requires { i + 2 ≤ length image.now }
     ensures { result ≡ half_of image.now i }

@@ -29,7 +29,8 @@ use prims::CYCLES;
 use regs::Regs;
 use whole::wipe;
 
-// "an ending carries its own detail inside the returned record"
+// "an ending carries its own detail inside the returned record": Blocked(output), Fault(number) and Unhandled(exception) are the form
+// that document 01 names, so a fault is a number.
 #[derive(Clone, Copy)]
 pub enum Ending {
     Finished,
@@ -193,7 +194,8 @@ fn run_accepted(
     sum_up(ending, last, t)
 }
 
-// One box, one activation, from empty stack and heap to an ending: any image, card, limits, areas, wires and order may be handed in.
+// One box, one activation, from empty stack and heap to an ending: any image, card, limits, areas, wires and order may be handed in. They are
+// slices one by one, the form that document 01 names and that hosts in C hand over.
 pub fn run(
     image: &[u8],
     card: &[u32],

@@ -123,7 +123,8 @@ fn converted(h: u32, c: Option<u32>) -> Result<Cell, Trouble>
     })
 }
 
-// "One operand: 1 not, 2 toFloat.i, 3 toInt.f"; h is its header, x its payload.
+// "One operand: 1 not, 2 toFloat.i, 3 toInt.f"; h is its header, x its payload. A primitive goes by its number: an enum of the 25 would only
+// say once more what stands beside each.
 fn prim1(a: u8, h: u32, x: u32) -> Result<Cell, Trouble>
     ensures { result ≡ tried (primitive1 a) (eqb h (primitive1 a).takes) x 0 }
 {
@@ -178,7 +179,7 @@ fn prim2(a: u8, h0: u32, x: u32, h1: u32, y: u32) -> Result<Cell, Trouble>
 
 // ---- an application
 
-// The opcodes of two of the three; 21, Raise, is the one that is left.
+// The opcodes of two of the three; 21, Raise, is the one that is left. Numbers, as in `step`.
 const CALL_PRIM1: usize = 19;
 
 const CALL_PRIM2: usize = 20;

@@ -5,6 +5,8 @@ ghost use Rattle.engine.specs.Turns.{Charging, goes_on, halt};
 
 use super::Ending;
 
+// What is known of them (`Fit`) is a clause of each method and no ghost field: the next registers are made before they are charged, and
+// may lie beyond the limits until then. So is what ties them to a buffer (`Refs`, `Framed`, `Blocks`), which they don't hold.
 #[derive(Clone, Copy)]
 pub struct Regs {
     pub pc: usize,

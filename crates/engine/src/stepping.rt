@@ -15,7 +15,8 @@ use arith::canonical;
 impl Regs {
     // One arm for each opcode: an arm of several isn't in the compiler's table of jumps. CallPrim1, CallPrim2 and Raise have one,
     // since what raises must be inlined here and is too large to be so more than once. The fields of an instruction are read
-    // where they are needed; one that it doesn't name is 0.
+    // where they are needed; one that it doesn't name is 0. The opcode stays a number: made an enum first, it slowed every group, and floats took
+    // 1.01 of the handwritten machine's time where 1.0 is the bar.
     pub(crate) fn step(
         self,
         code: &Code,

@@ -81,7 +81,7 @@ impl Header {
         self.inputs <= 8
             && self.outputs <= 8
             && (1..=32).contains(&self.rulesets)
-            && (self.handler < self.rulesets || self.handler == 255)
+            && (self.handler < self.rulesets || self.handler == 255) // what an image writes for none
             && (1..=4096).contains(&self.size)
     }
 }

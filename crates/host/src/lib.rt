@@ -28,7 +28,7 @@ fn record(figures: &mut [u32], eight: [u32; 8])
     figures[..n].copy_from_slice(&eight[..n]);
 }
 
-// One call, as `run` of the crate engine: the refusal's number is returned, 0 for none, and the eight figures go to `figures`.
+// C has no Result, so the refusal is its number. One call, as `run` of the crate engine: the refusal's number is returned, 0 for none, and the eight figures go to `figures`.
 pub fn ham_run(
     image: &[u8],
     card: &[u32],

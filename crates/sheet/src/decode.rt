@@ -82,6 +82,7 @@ impl Asked<'_> {
         ensures verdict { number result.verdict ≡ (answer (sheet_given self.now.image.now self.now.sheet.now)).refusal }
         ensures figures { reported result ≡ (answer (sheet_given self.now.image.now self.now.sheet.now)).figures }
     {
+        // Arrays of the greatest sizes: the program has no heap.
         let mut card = [0u32; 40];
         let mut stack = [0u32; 4096];
         let mut heap = [0u32; 16384];
