@@ -47,10 +47,10 @@ impl Regs {
         let sp = self.sp;
         let hp = self.hp;
         if sp - self.lp < n {
-            return self.halt(Ending::Fault(1));
+            return self.halt(Ending::TOO_FEW);
         }
         if !all_values(stack, sp, n) {
-            return self.halt(Ending::Fault(2));
+            return self.halt(Ending::WRONG_KIND);
         }
         let low = sp - n;
         let mut next = self;
@@ -77,16 +77,16 @@ impl Regs {
     {
         let sp = self.sp;
         if sp <= self.lp {
-            return self.halt(Ending::Fault(1));
+            return self.halt(Ending::TOO_FEW);
         }
         let low = sp - 1;
         let w = stack[low];
         let Some(at) = place_of(w) else {
-            return self.halt(Ending::Fault(2));
+            return self.halt(Ending::WRONG_KIND);
         };
         let head = heap[at];
         if !is_block(head) {
-            return self.halt(Ending::Fault(2));
+            return self.halt(Ending::WRONG_KIND);
         }
         let n = heap[at + 1] as usize;
         let mut next = self;
@@ -100,6 +100,9 @@ impl Regs {
     }
 }
 
+// Here and below, words of an area are told by a place and a number: they are counted down from the top, and a part of the slice would be
+// counted up.
+//
 // Whether the a words from the top down are references or None.
 pub(crate) fn all_values(stack: &[u32], sp: usize, a: usize) -> bool
     requires { (a ≤ sp) × (sp ≤ length stack.now) }
@@ -113,7 +116,7 @@ pub(crate) fn all_values(stack: &[u32], sp: usize, a: usize) -> bool
     true
 }
 
-// The a words from the top down, to the heap.
+// The a words from the top down, to the heap; `put_words` goes up both areas, so the two aren't one.
 fn put_fields(stack: &[u32], sp: usize, heap: &mut [u32], at: usize, a: usize)
     requires { (a ≤ sp) × (sp ≤ length stack.now) × (at + a ≤ length heap.old) }
     ensures { Placed heap.old heap.new at a (from_top stack.now sp) }

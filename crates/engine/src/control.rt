@@ -77,14 +77,14 @@ impl Regs {
     {
         let sp = self.sp;
         if sp - self.lp < 1 {
-            return self.halt(Ending::Fault(1));
+            return self.halt(Ending::TOO_FEW);
         }
         let w = stack[sp - 1];
         let Some(p) = place_of(w) else {
-            return self.halt(Ending::Fault(2));
+            return self.halt(Ending::WRONG_KIND);
         };
         if heap[p] != BOOL {
-            return self.halt(Ending::Fault(2));
+            return self.halt(Ending::WRONG_KIND);
         }
         let mut to = self.pc + 1;
         if heap[p + 1] == 1 {
@@ -128,10 +128,10 @@ impl Regs {
         let sp = self.sp;
         let fp = self.fp;
         if sp - self.lp < 1 {
-            return self.halt(Ending::Fault(1));
+            return self.halt(Ending::TOO_FEW);
         }
         if !has_frame(stack, fp) {
-            return self.halt(Ending::Fault(4));
+            return self.halt(Ending::NO_FRAME);
         }
         let top = stack[sp - 1];
         let ruled = stack[fp - 3];

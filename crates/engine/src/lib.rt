@@ -43,6 +43,34 @@ pub enum Ending {
     Heap,
 }
 
+// The faults.
+impl Ending {
+    // "too few values"
+    pub(crate) const TOO_FEW: Ending = Ending::Fault(1);
+
+    // "wrong kind of word or cell"
+    pub(crate) const WRONG_KIND: Ending = Ending::Fault(2);
+
+    // "no such local .., argument .. or input"
+    pub(crate) const NO_SUCH: Ending = Ending::Fault(3);
+
+    // "CreateFrame without 3 values, or Return where a saved word has the wrong type or fp is 0"
+    pub(crate) const NO_FRAME: Ending = Ending::Fault(4);
+
+    // "Write of a reference to a full wire"
+    pub(crate) const WIRE_FULL: Ending = Ending::Fault(5);
+
+    // "value over 64 wire words"
+    pub(crate) const TOO_LONG: Ending = Ending::Fault(6);
+
+    // "MatchRule with rp at the count"
+    pub(crate) const NO_RULE_LEFT: Ending = Ending::Fault(7);
+
+    // "CopyInput from an empty wire"
+    pub(crate) const WIRE_EMPTY: Ending = Ending::Fault(8);
+}
+
+// An ending has two numbers, so they are methods and no From.
 impl Ending {
     // Document 01's number of the ending.
     #[tactic(auto, unfolding(crate::specs::Reports::ending_number))]
@@ -139,7 +167,7 @@ fn sum_up(e: Ending, s: Regs, time: u32) -> Report
     }
 }
 
-// "Registers start at 0 ..; the ruleset is 0, pc its entry."
+// "Registers start at 0 ..; the ruleset is 0, pc its entry." Each by name, and no derived default: the reader sees all thirteen.
 fn begin(pc: usize, time: u32) -> Regs
     ensures { result ≡ beginning pc time }
 {

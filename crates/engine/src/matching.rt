@@ -57,6 +57,8 @@ fn move_last(order: &mut [u32], i: usize, j: usize)
     order[j - 1] = first;
 }
 
+// That the order fits the image and the current ruleset exists are clauses here and no fields of `Code`: the order is lent apart, since Reorder
+// writes it, and the ruleset is a register.
 impl Regs {
     // "22 StartMatches: to the current ruleset's rule at order 0"
     pub(crate) fn start_matches(self, cost: usize, code: &Code, order: &[u32]) -> Turn
@@ -78,7 +80,7 @@ impl Regs {
     {
         let count = code.count_of(self.rs);
         if count <= self.rp {
-            return self.halt(Ending::Fault(7));
+            return self.halt(Ending::NO_RULE_LEFT);
         }
         let mut next = self;
         next.sp = self.lp;
@@ -120,7 +122,7 @@ impl Regs {
     {
         let i = self.inp;
         if inputs <= i {
-            return Err(Ending::Fault(3));
+            return Err(Ending::NO_SUCH);
         }
         let k = wires[65 * i];
         Ok(Attempt {
@@ -138,12 +140,12 @@ impl Regs {
     {
         let k = 5 + self.mp;
         if self.fp < k {
-            return Err(Ending::Fault(3));
+            return Err(Ending::NO_SUCH);
         }
         let p = self.fp - k;
         let w = stack[p];
         if !is_value(w) {
-            return Err(Ending::Fault(2));
+            return Err(Ending::WRONG_KIND);
         }
         Ok(Attempt {
             hit: cell_matches(pattern, w, heap),

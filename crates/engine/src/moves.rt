@@ -52,7 +52,7 @@ impl Regs {
     {
         let n = a as usize;
         if self.sp - self.lp < n {
-            return self.halt(Ending::Fault(1));
+            return self.halt(Ending::TOO_FEW);
         }
         let mut next = self;
         next.sp = self.sp - n;
@@ -69,7 +69,7 @@ impl Regs {
         let i = a as usize;
         let sp = self.sp;
         if sp - self.lp <= i {
-            return self.halt(Ending::Fault(1));
+            return self.halt(Ending::TOO_FEW);
         }
         let w = stack[sp - (i + 1)];
         self.push(cost, w, stack)
@@ -93,7 +93,7 @@ impl Regs {
         let n = a as usize;
         let sp = self.sp;
         if sp - self.lp <= n {
-            return self.halt(Ending::Fault(1));
+            return self.halt(Ending::TOO_FEW);
         }
         let top = stack[sp - 1];
         let mut next = self;
@@ -115,11 +115,11 @@ impl Regs {
         let i = a as usize;
         let fp = self.fp;
         if fp < 5 + i {
-            return self.halt(Ending::Fault(3));
+            return self.halt(Ending::NO_SUCH);
         }
         let w = stack[fp - (5 + i)];
         if !is_plain(w) {
-            return self.halt(Ending::Fault(2));
+            return self.halt(Ending::WRONG_KIND);
         }
         self.push(cost, w, stack)
     }
@@ -151,7 +151,7 @@ impl Regs {
         let n = a as usize;
         let sp = self.sp;
         if sp - self.lp < 3 {
-            return self.halt(Ending::Fault(4));
+            return self.halt(Ending::NO_FRAME);
         }
         let fp = sp + 1;
         let mut next = self;
@@ -176,7 +176,7 @@ impl Regs {
         let i = a as usize;
         let fp = self.fp;
         if self.lp - fp <= i {
-            return self.halt(Ending::Fault(3));
+            return self.halt(Ending::NO_SUCH);
         }
         let w = stack[fp + i];
         self.push(cost, w, stack)
@@ -192,10 +192,10 @@ impl Regs {
         let sp = self.sp;
         let fp = self.fp;
         if sp - self.lp < 1 {
-            return self.halt(Ending::Fault(1));
+            return self.halt(Ending::TOO_FEW);
         }
         if self.lp - fp <= i {
-            return self.halt(Ending::Fault(3));
+            return self.halt(Ending::NO_SUCH);
         }
         let top = stack[sp - 1];
         let mut next = self;

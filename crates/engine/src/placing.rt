@@ -7,6 +7,8 @@ ghost use Rattle.engine.specs.Copies.{CellHere, ValueHere, BlockHere, Copied, Ce
 
 use super::words::{NONE, NONE_CELL, REFERENCE, TUPLE};
 
+// Words of the wires and of the heap are told by their place in the whole slice: references are to such places.
+//
 // After a cell: the next index of the wire's words, the next free place of the heap, and the word that refers to the cell.
 #[derive(Clone, Copy)]
 struct Placed {

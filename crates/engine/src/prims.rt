@@ -36,7 +36,7 @@ struct Cell {
     payload: u32,
 }
 
-// What comes in a result's place: a fault, or an exception's number and field.
+// What comes in a result's place: a fault, by its number as in `Ending`, or an exception's number and field.
 #[derive(Clone, Copy)]
 enum Trouble {
     Fault(u32),
@@ -68,7 +68,7 @@ fn truth(b: bool) -> u32
     u32::from(b)
 }
 
-// The Bool operations on 0 and 1.
+// The Bool operations on 0 and 1. They differ in the operator alone: one function that took it would read no plainer.
 #[tactic(auto, unfolding(hume::specs::Primitives::is_true))]
 fn both(x: u32, y: u32) -> u32
     ensures { result ≡ truth_of (is_true x && is_true y) }
@@ -83,7 +83,8 @@ fn either(x: u32, y: u32) -> u32
     truth(x == 1 || y == 1)
 }
 
-// A value v of the header g, where the operands' header h is k.
+// A value v of the header g, where the operands' header h is k. Headers and payloads come as numbers: a `Cell` of an operand would be put together
+// only to be taken apart here.
 #[tactic(auto, unfolding(crate::specs::Outcomes::kept, hume::specs::Tests::pick))]
 fn keep(h: u32, k: u32, g: u32, v: u32) -> Result<Cell, Trouble>
     ensures { result ≡ kept h k g v }
@@ -197,7 +198,8 @@ fn cycles(table: &[u16], op: usize, a: u8) -> u16
     }
 }
 
-// How many values an application takes from the top.
+// How many values an application takes from the top. `cycles`, this and `try_any` each go by the opcode, at another place of an application and with
+// a promise of their own: one switch for all three would say no more plainly what each gives.
 fn operands(op: usize) -> usize
     ensures { result ≡ operands_of op }
 {

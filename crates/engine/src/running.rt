@@ -8,7 +8,7 @@ use super::image::Code;
 use super::regs::Regs;
 
 impl Regs {
-    // "The main loop yields the ending it stopped on": each step takes time, so what is left falls.
+    // "The main loop yields the ending it stopped on", so it is a `loop` that breaks with it: each step takes time, so what is left falls.
     pub(crate) fn run(
         self,
         code: &Code,

@@ -22,6 +22,9 @@ pub(crate) fn spread(heap: &[u32], w: u32, wires: &mut [u32], at: usize) -> Opti
     spread_block(&*heap, w, wires, at + 1, at + 65).map(|end| end - (at + 1))
 }
 
+// These three ask that their own word is readable, so it is a clause of each; and they are told the index in the whole buffer, since a part of it
+// would have to be cut and put back for each cell.
+//
 // The copier of a list of fields, with the two words of their object before them; it and that of a cell call each other, and the
 // wire words that remain fall. The index after them, if they end at `end` or before.
 #[cycle(spread_block_spread_cell)]

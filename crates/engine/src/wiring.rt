@@ -18,6 +18,8 @@ use super::regs::{Regs, Turn};
 use super::spreading::spread;
 use super::words::{NONE, is_value};
 
+// A wire is 65 words of the lent buffer, the first of them its count: document 01's form, as for all that follow.
+//
 // The 65 words of the wire at the index `at` become 0.
 fn clear_wire(wires: &mut [u32], at: usize)
     requires { at + 65 ≤ length wires.old }
@@ -52,17 +54,17 @@ fn room_for(w: u32, o: usize, heap: &[u32], wires: &mut [u32]) -> Result<usize, 
 {
     let at = 65 * o;
     if !is_value(w) {
-        return Err(Ending::Fault(2));
+        return Err(Ending::WRONG_KIND);
     }
     if w == NONE {
         return Ok(0);
     }
     if wires[at] != 0 {
-        return Err(Ending::Fault(5));
+        return Err(Ending::WIRE_FULL);
     }
     let Some(n) = spread(heap, w, wires, at) else {
         clear_wire(wires, at);
-        return Err(Ending::Fault(6));
+        return Err(Ending::TOO_LONG);
     };
     Ok(n)
 }
@@ -100,10 +102,10 @@ impl Regs {
     {
         let sp = self.sp;
         if sp - self.lp < outputs {
-            return self.halt(Ending::Fault(1));
+            return self.halt(Ending::TOO_FEW);
         }
         if !all_values(stack, sp, outputs) {
-            return self.halt(Ending::Fault(2));
+            return self.halt(Ending::WRONG_KIND);
         }
         if let Some(i) = first_stuck(stack, sp, wires, inputs, outputs) {
             return self.halt(Ending::Blocked(i as u32));
@@ -130,7 +132,7 @@ impl Regs {
         let at = 65 * a as usize;
         let k = wires[at] as usize;
         if k == 0 {
-            return self.halt(Ending::Fault(8));
+            return self.halt(Ending::WIRE_EMPTY);
         }
         let grown = count_words(wires, at + 1, k);
         let sp = self.sp;
@@ -165,7 +167,7 @@ impl Regs {
     {
         let sp = self.sp;
         if sp <= self.lp {
-            return self.halt(Ending::Fault(1));
+            return self.halt(Ending::TOO_FEW);
         }
         let w = stack[sp - 1];
         let o = inputs + a as usize;

@@ -95,6 +95,7 @@ fn respond(stdin: &mut impl Read, input: &mut [u8], line: &mut [u8; 88]) -> Repl
 
 // What went wrong outside the program is said on standard error. Where that fails too, nothing can be said.
 fn main(rt: HostRuntime) {
+    // Arrays of the greatest sizes: the program has no heap.
     let mut input = [0u8; INPUT_MOST];
     let mut line = [0u8; 88];
     let reply = respond(&mut rt.stdin(), &mut input, &mut line);

@@ -129,7 +129,8 @@ fn run_input(input: &[u8]) -> Result<Report, TurnedAway>
     run_parts(image, sheet)
 }
 
-// What the program prints for its input: it stands in the line from the returned place to the end.
+// What the program prints for its input: it stands in the line from the returned place to the end (digits come from the last on, and there is no
+// heap for a text of its own).
 pub fn print(input: &[u8], line: &mut [u8; 88]) -> usize
     ensures { Text 88 line.old line.new result (printed input.now) 0 88 }
 {
