@@ -11,7 +11,8 @@ ghost use Rattle.engine.specs.Blocks.{Blocks, making, Placed, from_top, from_pla
 
 use super::Ending;
 use super::regs::{Regs, Turn};
-use super::words::{CONSTR, REFERENCE, TUPLE, is_value, place_of};
+use super::words::{REFERENCE, is_value, place_of};
+use gate::headers::{CONSTR, TUPLE};
 
 impl Regs {
     // "1 MkBool c, 2 MkInt c (two's complement), 3 MkFloat c (bits)" [+1]: a header and a payload.

@@ -11,7 +11,8 @@ ghost use Rattle.engine.specs.Frames.{Framed, framed};
 
 use super::Ending;
 use super::regs::{Regs, Turn};
-use super::words::{BOOL, FRAME, LINK, REFERENCE, RETURN, RULES, place_of};
+use super::words::{FRAME, LINK, REFERENCE, RETURN, RULES, place_of};
+use gate::headers::BOOL;
 
 // "Return where a saved word has the wrong type or fp is 0". A frame stands above four saved words, so fp is 0 where it is below 4.
 fn has_frame(stack: &[u32], fp: usize) -> bool

@@ -5,7 +5,8 @@ ghost use Rattle.hume.specs.Values.{block};
 ghost use Rattle.laws.specs.Sizes.{heads};
 ghost use Rattle.engine.specs.Copies.{CellHere, ValueHere, BlockHere, Copied, CellPlaced};
 
-use super::words::{NONE, NONE_CELL, REFERENCE, TUPLE};
+use super::words::{NONE, REFERENCE};
+use gate::headers::{NONE_CELL, TUPLE};
 
 // Words of the wires and of the heap are told by their place in the whole slice: references are to such places.
 //

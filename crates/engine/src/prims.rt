@@ -14,11 +14,12 @@ ghost use Rattle.engine.specs.Outcomes.{operands as operands_of, results, throws
 use super::Ending;
 use super::image::Handler;
 use super::regs::{Regs, Turn};
-use super::words::{BOOL, EXN, FLOAT, INT, LINK, NONE, REFERENCE, is_value, place_of};
+use super::words::{LINK, NONE, REFERENCE, is_value, place_of};
 use arith::{
     add_float, add_int, div_float, div_int, eq_float, le_float, le_int, lt_float, lt_int, mod_int,
     mul_float, mul_int, sub_float, sub_int, to_float, to_int,
 };
+use gate::headers::{BOOL, EXN, FLOAT, INT};
 
 // ---- one primitive
 

@@ -4,7 +4,8 @@ ghost use Rattle.hume.specs.Words.{tuple_header};
 ghost use Rattle.engine.specs.Copies.{Readable, spreads, Spread};
 
 use super::placing::put_pair;
-use super::words::{NONE, NONE_CELL, REFERENCE, TUPLE};
+use super::words::{NONE, REFERENCE};
+use gate::headers::{NONE_CELL, TUPLE};
 
 // Spreads the reference w out on the empty wire at the index `at`, all but its count: how many words that are, if they are not
 // more than 64. If they are, as many as there is room for may be written.

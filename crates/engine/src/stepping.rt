@@ -9,8 +9,8 @@ ghost use Rattle.engine.specs.Ready.{Ready};
 use super::image::Code;
 use super::matching::Pattern;
 use super::regs::{Regs, Turn};
-use super::words::{BOOL, CONSTR, EXN, FLOAT, INT, TUPLE};
 use arith::canonical;
+use gate::headers::{BOOL, CONSTR, EXN, FLOAT, INT, TUPLE};
 
 impl Regs {
     // One arm for each opcode: an arm of several isn't in the compiler's table of jumps. CallPrim1, CallPrim2 and Raise have one,

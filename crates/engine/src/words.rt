@@ -18,21 +18,6 @@ pub(crate) const FRAME: u32 = 5 << 28;
 
 pub(crate) const LINK: u32 = 6 << 28;
 
-// Headers: "The header is kind × 65536 + tag"; a Constr or an Exn adds its tag.
-pub(crate) const BOOL: u32 = 1 << 16;
-
-pub(crate) const INT: u32 = 2 << 16;
-
-pub(crate) const FLOAT: u32 = 3 << 16;
-
-pub(crate) const TUPLE: u32 = 4 << 16;
-
-pub(crate) const CONSTR: u32 = 5 << 16;
-
-pub(crate) const EXN: u32 = 6 << 16;
-
-pub(crate) const NONE_CELL: u32 = 7 << 16;
-
 // The heap place that a reference is to.
 pub(crate) fn place_of(w: u32) -> Option<usize>
     ensures { result ≡ place w }

@@ -3,6 +3,7 @@
 #![tactic(auto)]
 
 mod code;
+pub mod headers;
 pub mod image;
 mod order;
 mod refusals;

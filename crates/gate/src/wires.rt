@@ -6,25 +6,15 @@ ghost use Rattle.hume.specs.Values.{atom_ok, block_ok, one_value, wire_ok};
 ghost use Rattle.hume.specs.Refusals.{wires_ok};
 ghost use Rattle.gate.specs.Cells.{CellEnds, FieldsEnd};
 
+use crate::headers::{BOOL, CONSTR, EXN, FLOAT, INT, NONE_CELL, TUPLE};
 use crate::image::byte_at;
 
-// Headers: "The header is kind × 65536 + tag"; "Only Constr and Exn have a tag."
-const BOOL: u32 = 1 << 16;
-
-const INT: u32 = 2 << 16;
-
-const FLOAT: u32 = 3 << 16;
-
-const TUPLE: u32 = 4 << 16;
-
-const NONE: u32 = 7 << 16;
-
 // The kinds of the two headers that have a tag.
-const CONSTR: u32 = 5;
+const CONSTR_KIND: u32 = CONSTR >> 16;
 
-const EXN: u32 = 6;
+const EXN_KIND: u32 = EXN >> 16;
 
-// The bits of a Float: all but the sign, those of an infinity, the one NaN.
+// The bits of a Float: all but the sign, those of an infinity, the one NaN. They are told as `arith` tells them, which doesn't stand below this crate.
 const MAGNITUDE: u32 = 0x7FFF_FFFF;
 
 const INFINITY: u32 = 0x7F80_0000;
@@ -53,8 +43,8 @@ fn block_ok(h: u32, n: u32) -> bool
         return n <= 255;
     }
     match h >> 16 {
-        CONSTR => n <= 255,
-        EXN => n == 1,
+        CONSTR_KIND => n <= 255,
+        EXN_KIND => n == 1,
         _ => false,
     }
 }
@@ -66,7 +56,7 @@ fn cell_end(s: &[u32], i: usize) -> Option<usize>
     ensures { CellEnds s.now i result }
 {
     let h = *s.get(i)?;
-    if h == NONE {
+    if h == NONE_CELL {
         return Some(i + 1);
     }
     let x = *s.get(i + 1)?;
@@ -97,7 +87,7 @@ fn fields_end(s: &[u32], i: usize, n: u32) -> Option<usize>
 fn one_value(s: &[u32]) -> bool
     ensures { result ≡ one_value s.now }
 {
-    s.first() != Some(&NONE) && cell_end(s, 0) == Some(s.len())
+    s.first() != Some(&NONE_CELL) && cell_end(s, 0) == Some(s.len())
 }
 
 fn zeros(s: &[u32]) -> bool

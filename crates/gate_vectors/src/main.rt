@@ -67,7 +67,7 @@ impl Call {
         }
     }
 
-    // "Places below 40000 are bytes of the image", the others words.
+    // "Places below 40000 are bytes of the image", the others words. What is over is taken off by a remainder: a cast must lose nothing.
     fn put(&mut self, place: u64, value: u64) {
         if place < 40000 {
             put(&mut self.image, place as usize, (value % 256) as u8);

@@ -61,7 +61,8 @@ impl Asked<'_> {
         both
     }
 
-    // "order 0, 1, 2...", ruleset after ruleset: how many words it has.
+    // "order 0, 1, 2...", ruleset after ruleset: how many words it has. The counts are read where they stand: of `gate::layout` they would be the
+    // differences of neighbours.
     fn first_order(&self, order: &mut [u32]) -> usize
         requires { 512 ≤ length order.old }
         ensures { (result ≤ 512) × (take result order.new ≡ first_order (program self.now.image.now) (program self.now.image.now).rulesets) }

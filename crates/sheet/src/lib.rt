@@ -69,7 +69,8 @@ fn sheet_needed(image: &[u8], sheet: &[u8]) -> usize
     long
 }
 
-// How many bytes of the input have to be read, as far as those read so far tell.
+// How many bytes of the input have to be read, as far as those read so far tell. Its tests are those of `parts`, but what is missing differs at each,
+// and `parts` says only that something is.
 #[tactic(auto, unfolding(crate::specs::Needed::needed, hume::specs::Tests::pick, hume::specs::Sheet::image_read, hume::specs::Sheet::sheet_read))]
 pub fn needed(input: &[u8]) -> usize
     ensures { Read (neededOf input.now) 36160 result }

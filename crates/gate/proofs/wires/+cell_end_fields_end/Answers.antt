@@ -6,35 +6,35 @@ use Rattle.gate.proofs.wires.+cell_end_fields_end.Goals as goal
 pub cell_end-returns-in_err-h : goal.cell_end-returns-in_err-h
 cell_end-returns-in_err-h t c = rw c.from_residual.ensures (past_end _ _ (search rules))
 
-pub cell_end-returns-then-h-eq-NONE : goal.cell_end-returns-then-h-eq-NONE
-cell_end-returns-then-h-eq-NONE t c =
+pub cell_end-returns-then-h-eq-NONE_CELL : goal.cell_end-returns-then-h-eq-NONE_CELL
+cell_end-returns-then-h-eq-NONE_CELL t c =
     let h : get_or c.args.s.now c.args.i 0 ≡ c.in_ok-h.field-0.now = search rules in
-    a_none _ _ (search rules) (h ∙ c.if-h-eq-NONE.true)
+    a_none _ _ (search rules) (h ∙ c.if-h-eq-NONE_CELL.true)
 
 pub cell_end-returns-in_err-x : goal.cell_end-returns-in_err-x
 cell_end-returns-in_err-x t c =
     let h : get_or c.args.s.now c.args.i 0 ≡ c.in_ok-h.field-0.now = search rules in
-    rw c.from_residual-in_err-x.ensures (cut_short _ _ (λ z. c.if-h-eq-NONE.false (sym h ∙ z)) (search rules))
+    rw c.from_residual-in_err-x.ensures (cut_short _ _ (λ z. c.if-h-eq-NONE_CELL.false (sym h ∙ z)) (search rules))
 
 pub cell_end-returns-then-atom_ok : goal.cell_end-returns-then-atom_ok
 cell_end-returns-then-atom_ok t c =
     let h : get_or c.args.s.now c.args.i 0 ≡ c.in_ok-h.field-0.now = search rules in
     let x : get_or c.args.s.now (c.args.i + 1) 0 ≡ c.in_ok-x.field-0.now = search rules in
-    an_atom _ _ (λ z. c.if-h-eq-NONE.false (sym h ∙ z)) (search rules)
+    an_atom _ _ (λ z. c.if-h-eq-NONE_CELL.false (sym h ∙ z)) (search rules)
     (of_true (rw (h, x) (sym c.atom_ok.ensures ∙ c.if-atom_ok.true)))
 
 pub cell_end-returns-then-block_ok : goal.cell_end-returns-then-block_ok
 cell_end-returns-then-block_ok t c =
     let h : get_or c.args.s.now c.args.i 0 ≡ c.in_ok-h.field-0.now = search rules in
     let x : get_or c.args.s.now (c.args.i + 1) 0 ≡ c.in_ok-x.field-0.now = search rules in
-    a_block _ _ (λ z. c.if-h-eq-NONE.false (sym h ∙ z)) (search rules)
+    a_block _ _ (λ z. c.if-h-eq-NONE_CELL.false (sym h ∙ z)) (search rules)
     (of_true (rw (h, x) (sym c.block_ok.ensures ∙ c.if-block_ok.true))) _ (rw x c.fields_end.ensures)
 
 pub cell_end-returns : goal.cell_end-returns
 cell_end-returns t c =
     let h : get_or c.args.s.now c.args.i 0 ≡ c.in_ok-h.field-0.now = search rules in
     let x : get_or c.args.s.now (c.args.i + 1) 0 ≡ c.in_ok-x.field-0.now = search rules in
-    neither _ _ (λ z. c.if-h-eq-NONE.false (sym h ∙ z))
+    neither _ _ (λ z. c.if-h-eq-NONE_CELL.false (sym h ∙ z))
     (λ y. subst T (sym c.atom_ok.ensures ∙ c.if-atom_ok.false) (rw (h, x) at y))
     (λ y. subst T (sym c.block_ok.ensures ∙ c.if-block_ok.false) (rw (h, x) at y))
 
