@@ -188,9 +188,8 @@ fn begin(pc: usize, time: u32) -> Regs
     }
 }
 
-// The run of a call that no number turns away. It stays a function of its own: compiled into the checks, the loop would share the
-// processor's registers with them.
-#[inline(never)]
+// The run of a call that no number turns away. It is compiled into whatever calls `run`, where the places of areas that the caller owns are
+// known, as in the program; the checks stay apart from it (`gate::verdict`).
 fn run_accepted(
     image: &[u8],
     card: &[u32],

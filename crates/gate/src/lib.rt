@@ -106,7 +106,9 @@ fn lent_verdict(
     Ok(())
 }
 
-// 1 to 8. Everything is lent slice by slice, as document 01 names it, and not in a struct.
+// 1 to 8. Everything is lent slice by slice, as document 01 names it, and not in a struct. It stays a function of its own: compiled into the
+// function that has the machine's loop, the checks would share the processor's registers with it.
+#[inline(never)]
 #[tactic(auto, unfolding(hume::specs::Call::refusal, hume::specs::Call::first_of))]
 pub fn verdict(
     image: &[u8],
