@@ -5,9 +5,10 @@ ghost use Rattle.std.specs.Prelude.{◌≡◌};
 ghost use Rattle.std.proofs.lemmas.List.Edits.{sets};
 ghost use Rattle.hume.specs.Call.{answer};
 ghost use Rattle.gate.specs.Verdicts.{number, given};
-ghost use Rattle.host.specs.Told.{recorded};
+ghost use Rattle.engine.specs.Reports.{reported};
+ghost use Rattle.host.specs.Told.{recorded_by, recorded};
 
-use engine::run;
+use engine::{Report, run};
 use gate::Refusal;
 
 // Document 01's number of a refusal, 0 for none.
@@ -26,6 +27,16 @@ fn record(figures: &mut [u32], eight: [u32; 8])
 {
     let n = figures.len().min(8);
     figures[..n].copy_from_slice(&eight[..n]);
+}
+
+// The figures of an accepted call. A refused one writes to no buffer.
+#[tactic(auto, using(crate::proofs::Writing::written, crate::proofs::Writing::kept))]
+fn tell(figures: &mut [u32], report: &Report)
+    ensures { figures.new ≡ recorded_by (number report.now.verdict) (reported report.now) figures.old }
+{
+    if report.verdict.is_ok() {
+        record(figures, report.figures());
+    }
 }
 
 // C has no Result, so the refusal is its number. One call, as `run` of the crate engine: the refusal's number is returned, 0 for none, and the eight figures go to `figures`.
@@ -49,8 +60,6 @@ pub fn ham_run(
     ensures figures_after { figures.new ≡ recorded (answer (given image.now card.now t s h stack.old heap.old wires.old order.old)) figures.old }
 {
     let report = run(image, card, t, s, h, stack, heap, wires, order);
-    if report.verdict.is_ok() {
-        record(figures, report.figures());
-    }
+    tell(figures, &report);
     number_of(report.verdict)
 }
